@@ -1,0 +1,117 @@
+//! What a plug-in subscribes to.
+
+/// Which events a subscription hears. `docs/plug-ins.md` has the bits.
+#[derive(Clone, Copy, Debug, PartialEq, Eq)]
+pub struct Filter {
+    /// A bit for each of Init 0, Block 1, Insn 2, Mem 3, Sys 4, SysRet 5, Exit 6.
+    pub kinds: u8,
+    /// The least pc of Block, Insn and Mem events.
+    pub lo: u64,
+    /// The greatest pc of Block, Insn and Mem events.
+    pub hi: u64,
+    /// A bit for each class: alu 0, muldiv 1, load 2, store 3, branch 4, jump 5, atomic 6, system 7, illegal 8.
+    pub classes: u16,
+    /// 1 for loads, 2 for stores, 3 for both.
+    pub rw: u8,
+}
+
+/// What a box counts or keeps.
+#[derive(Clone, Copy, Debug, PartialEq, Eq)]
+pub enum KindName {
+    Counts,
+    Hot,
+    Mem,
+    Exec,
+    Classes,
+    Pages,
+    /// A kind of the caller's own.
+    Own { number: u32 },
+}
+
+/// What a box asks for at its quota.
+#[derive(Clone, Copy, Debug, PartialEq, Eq)]
+pub enum Ask {
+    Stay,
+    Reset,
+    Uninstall,
+}
+
+/// The kind of a box, and its quota of calls: 0 for none.
+#[derive(Clone, Copy, Debug, PartialEq, Eq)]
+pub struct Kind {
+    pub name: KindName,
+    /// The number of the call at which the box asks; 0 exactly where `ask` is Stay.
+    pub quota: u64,
+    pub ask: Ask,
+}
+
+/// An inline operation on an entry.
+#[derive(Clone, Copy, Debug, PartialEq, Eq)]
+pub enum Op {
+    /// Adds modulo 2^64.
+    Add,
+    Store,
+}
+
+/// A comparison of an entry with an immediate, both unsigned.
+#[derive(Clone, Copy, Debug, PartialEq, Eq)]
+pub enum Cond {
+    Never,
+    Always,
+    Eq,
+    Ne,
+    Lt,
+    Le,
+    Gt,
+    Ge,
+}
+
+/// What is done at each matching event.
+#[derive(Clone, Copy, Debug, PartialEq, Eq)]
+pub enum Act {
+    Call {
+        kind: Kind,
+    },
+    Inline {
+        op: Op,
+        entry: u8,
+        imm: u64,
+    },
+    /// A call where the condition holds between the entry and `imm`; then `then_store` is stored, where given.
+    Cond {
+        cond: Cond,
+        entry: u8,
+        imm: u64,
+        then_store: Option<u64>,
+        kind: Kind,
+    },
+}
+
+/// A subscription.
+#[derive(Clone, Copy, Debug, PartialEq, Eq)]
+pub struct Sub {
+    pub filter: Filter,
+    pub act: Act,
+}
+
+/// A list of subscriptions.
+#[derive(Debug, PartialEq, Eq, Drop)]
+pub struct Subs {
+    subs: Vec<Sub>,
+}
+
+/// A set of subscriptions with its number of scoreboard entries.
+#[derive(Debug, PartialEq, Eq, Drop)]
+pub struct SetSpec {
+    pub entries: u8,
+    pub subs: Subs,
+}
+
+/// One line of a box's tally. `docs/plug-ins.md` says what the numbers are for each kind.
+#[derive(Clone, Copy, Debug, PartialEq, Eq)]
+pub struct Row {
+    pub key: u64,
+    pub a: u64,
+    pub b: u64,
+    pub c: u64,
+}
