@@ -1,0 +1,16 @@
+pub mod Fields
+pub mod Rows
+pub mod Instruction
+pub mod Image
+pub mod Permission
+pub mod World
+pub mod Effect
+pub mod Step
+pub mod Texts
+pub mod Asks
+pub mod Columns
+pub mod Plan
+pub mod Log
+pub mod Registry
+pub mod Kinds
+pub mod Tallies

@@ -1,7 +1,13 @@
 //! The memory image that a file gives.
 
+ghost use Rattle.std.specs.Prelude.{◌≡◌, ◌≤◌, ◌+◌, ◌&&◌, true, IfSome};
+ghost use Rattle.std.specs.Option.{option_copied};
+ghost use Rattle.flat_model.specs.Image.{word_at, word_of, code_at, holds, end_of};
+
+use std::marker::Model;
+
 /// Bytes at an address, with their permissions.
-#[derive(Debug, PartialEq, Eq, Drop)]
+#[derive(Debug, Drop)]
 pub struct Region {
     /// The address of the first byte.
     pub base: u64,
@@ -11,9 +17,70 @@ pub struct Region {
     pub x: bool,
 }
 
+impl Model for Region {
+    ghost use Rattle.flat_model.specs.Image.{Segment};
+
+    ghost Value = { Segment };
+
+    ghost view = { λ a. record { base = a.base; bytes = a.bytes.items; r = a.r; w = a.w; x = a.x } };
+}
+
+impl Region {
+    /// Whether the four bytes at `pc` are code of this region.
+    pub fn has_code(&self, pc: u64) -> bool
+        ensures code { result ≡ (self.now.x && holds pc 4 self.now) }
+    {
+        let len = self.bytes.len() as u64;
+        self.x && self.base <= pc && 4 <= len && pc - self.base <= len - 4
+    }
+
+    /// The little-endian word of the four bytes at `pc`, which lie in the region.
+    pub fn word(&self, pc: u64) -> u32
+        requires base { self.now.base ≤ pc }
+        requires end { pc + 4 ≤ end_of self.now }
+        ensures word { result ≡ word_of pc self.now }
+    {
+        let i = (pc - self.base) as usize;
+        let bytes = self.bytes.as_slice();
+        u32::from_le_bytes([bytes[i], bytes[i + 1], bytes[i + 2], bytes[i + 3]])
+    }
+}
+
 /// What a file gives: its regions and the address of the first instruction.
-#[derive(Debug, PartialEq, Eq, Drop)]
+#[derive(Debug, Drop)]
 pub struct Image {
     pub regions: Vec<Region>,
     pub entry: u64,
+}
+
+impl Model for Image {
+    ghost use Rattle.flat_model.specs.Image.{Program, IsImage};
+
+    ghost Value = { Program };
+
+    ghost view = { λ a. record { regions = a.regions.items; entry = a.entry } };
+
+    ghost invariant = { λ a. IsImage (record { regions = a.regions.items; entry = a.entry }) };
+}
+
+impl Image {
+    /// The present word at `pc`; `None` where it is absent or `pc` is not a multiple of 4.
+    #[tactic(auto, unfolding(crate::specs::Image::word_at))]
+    pub fn word(&self, pc: u64) -> Option<u32>
+        ensures word { result ≡ word_at self.now pc }
+    {
+        if pc % 4 != 0 {
+            return None;
+        }
+        let region = code_region(&self.regions, pc)?;
+        Some(region.word(pc))
+    }
+}
+
+/// The region with the four bytes at `pc` as code.
+fn code_region(regions: &[Region], pc: u64) -> Option<&Region>
+    ensures found { option_copied result ≡ code_at regions.now pc }
+    ensures code { IfSome result (λ r. (r.now.x && holds pc 4 r.now) ≡ true) }
+{
+    regions.iter().find(|region| region.has_code(pc))
 }

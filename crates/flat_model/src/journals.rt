@@ -1,6 +1,11 @@
 //! What a run's journal keeps, and the plan of a run.
 
+ghost use Rattle.std.specs.Prelude.{◌≡◌, IfOk};
+
 use crate::plugins::SetSpec;
+use crate::refusals::NoMemory;
+use std::alloc::Global;
+use std::marker::Model;
 
 /// What is done to a plug-in. Plug-ins are numbered from 1 in the order of their installs.
 #[derive(Debug, PartialEq, Eq, Drop)]
@@ -9,6 +14,29 @@ pub enum Order {
     Register { plugin: u8, spec: SetSpec },
     Reset { plugin: u8 },
     Uninstall { plugin: u8 },
+}
+
+impl Order {
+    /// An equal order of its own.
+    pub fn copied(&self, alloc: Global) -> Result<Order, NoMemory>
+        ensures { IfOk result (λ copy. copy ≡ self.now) }
+    {
+        match self {
+            Order::Install { spec } => {
+                let spec = spec.copied(alloc)?;
+                Ok(Order::Install { spec })
+            }
+            Order::Register { plugin, spec } => {
+                let spec = spec.copied(alloc)?;
+                Ok(Order::Register {
+                    plugin: *plugin,
+                    spec,
+                })
+            }
+            Order::Reset { plugin } => Ok(Order::Reset { plugin: *plugin }),
+            Order::Uninstall { plugin } => Ok(Order::Uninstall { plugin: *plugin }),
+        }
+    }
 }
 
 /// Who gave an order.
@@ -44,11 +72,22 @@ pub struct Timed {
     pub order: Order,
 }
 
-/// What a run is to do beside its guest: the installs at the start, and the script.
+/// What a run is to do beside its guest: the installs at the start, and the script, whose moments
+/// never fall and which has fewer than 2^32 lines.
 #[derive(Debug, Drop)]
 pub struct Plan {
     pub installs: Vec<SetSpec>,
     pub script: Vec<Timed>,
+}
+
+impl Model for Plan {
+    ghost use Rattle.flat_model.specs.Plan.{Planned, IsPlan};
+
+    ghost Value = { Planned };
+
+    ghost view = { λ p. record { installs = p.installs.items; script = p.script.items } };
+
+    ghost invariant = { λ p. IsPlan p.script.items };
 }
 
 /// The state of a plug-in.

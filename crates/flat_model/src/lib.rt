@@ -2,16 +2,20 @@
 //! the flat machine, the instruction table, the journal's log and the texts.
 #![tactic(auto)]
 
+pub use effects::Done;
 pub use events::{Class, Ending, Event, FaultKind, What};
 pub use images::{Image, Region};
 pub use instructions::{AtomicOp, BranchOp, ImmOp, Ins, LoadOp, RegOp, StoreOp};
 pub use journals::{Entry, How, Order, Origin, Plan, PlugState, Timed};
+pub use orders::OrderRefusal;
 pub use plugins::{Act, Ask, Cond, Filter, Kind, KindName, Op, Row, SetSpec, Sub, Subs};
 pub use refusals::{NoMemory, NotThisRun, Refused};
 
+mod effects;
 mod events;
 mod images;
 mod instructions;
 mod journals;
+mod orders;
 mod plugins;
 mod refusals;

@@ -1,5 +1,12 @@
 //! What a plug-in subscribes to.
 
+ghost use Rattle.std.specs.Prelude.{◌≡◌, ◌==◌, ◌<◌, ◌^◌, length, IfOk};
+ghost use Rattle.flat_model.specs.Asks.{stays};
+
+use crate::refusals::NoMemory;
+use std::alloc::Global;
+use std::marker::Model;
+
 /// Which events a subscription hears. `docs/plug-ins.md` has the bits.
 #[derive(Clone, Copy, Debug, PartialEq, Eq)]
 pub struct Filter {
@@ -43,6 +50,7 @@ pub struct Kind {
     /// The number of the call at which the box asks; 0 exactly where `ask` is Stay.
     pub quota: u64,
     pub ask: Ask,
+    pub ghost asks_at_quota: { stays ask ≡ (quota == 0) },
 }
 
 /// An inline operation on an entry.
@@ -94,10 +102,58 @@ pub struct Sub {
     pub act: Act,
 }
 
-/// A list of subscriptions.
-#[derive(Debug, PartialEq, Eq, Drop)]
+/// A list of subscriptions, fewer than 2^32.
+#[derive(Debug, Drop)]
 pub struct Subs {
     subs: Vec<Sub>,
+}
+
+impl Model for Subs {
+    ghost use Rattle.std.specs.Prelude.{◌<◌, ◌^◌, List, length};
+    ghost use Rattle.flat_model.specs.declared.plugins.Sub.{Sub};
+
+    ghost Value = { List Sub };
+
+    ghost view = { λ s. s.subs.items };
+
+    ghost invariant = { λ s. length s.subs.items < 2 ^ 32 };
+}
+
+impl Subs {
+    /// The subscriptions of `subs`, in order.
+    pub fn new(subs: Vec<Sub>) -> Subs
+        requires { length subs.items < 2 ^ 32 }
+        ensures { result ≡ subs.items }
+    {
+        Subs { subs }
+    }
+
+    pub fn as_slice(&self) -> &[Sub]
+        ensures subscriptions { result.now ≡ self.now }
+        ensures fewer { length self.now < 2 ^ 32 }
+    {
+        &self.subs
+    }
+}
+
+impl PartialEq for Subs {
+    ghost use Rattle.std.specs.Cmp.Lexicographic.{pointwise, lists_per};
+    ghost use Rattle.flat_model.specs.contracts.plugins.SubPartialEq.TheImpl.Laws.{laws-law};
+
+    ghost eq = { pointwise ⟦<Sub as PartialEq>⟧.eq };
+
+    ghost laws = { lists_per laws-law };
+
+    fn eq(&self, other: &Subs) -> bool {
+        self.as_slice() == other.as_slice()
+    }
+}
+
+impl Eq for Subs {
+    ghost use Rattle.std.specs.Cmp.Lexicographic.{lists_equiv};
+    ghost use Rattle.flat_model.specs.contracts.plugins.SubEq.TheImpl.Laws.{laws-law};
+
+    ghost laws = { lists_equiv laws-law };
 }
 
 /// A set of subscriptions with its number of scoreboard entries.
@@ -105,6 +161,19 @@ pub struct Subs {
 pub struct SetSpec {
     pub entries: u8,
     pub subs: Subs,
+}
+
+impl SetSpec {
+    /// An equal set of its own.
+    pub fn copied(&self, alloc: Global) -> Result<SetSpec, NoMemory>
+        ensures { IfOk result (λ copy. copy ≡ self.now) }
+    {
+        let subs = Subs::new(Vec::from_slice(alloc, self.subs.as_slice())?);
+        Ok(SetSpec {
+            entries: self.entries,
+            subs,
+        })
+    }
 }
 
 /// One line of a box's tally. `docs/plug-ins.md` says what the numbers are for each kind.
