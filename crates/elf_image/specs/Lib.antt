@@ -1,0 +1,6 @@
+pub mod Fields
+pub mod Rules
+pub mod Loads
+pub mod Kept
+pub mod Laws
+pub mod Checks
