@@ -1,0 +1,14 @@
+//! Journals as files. `docs/formats.md` has the bytes.
+#![tactic(auto)]
+
+pub use reading::read;
+pub use refusal::FileRefusal;
+pub use writing::write;
+
+mod fields;
+mod plugins;
+mod reading;
+mod refusal;
+#[cfg(test)]
+mod tests;
+mod writing;
