@@ -1,0 +1,142 @@
+-- The head of a part, and the subscription that a part spells.
+use Rattle.std.specs.Prelude.{ℕ, ◌+◌, ◌-◌, ◌^◌, ◌%◌, ◌≤◌, ◌&&◌, ◌||◌, codes, Bool, true, false, if◌then◌else◌, List, length, take, drop, Option, Some, None, is_some, unwrap_or, Result, Ok, Err, refl}
+use Rattle.std.specs.Str.{bytes_eq}
+use Rattle.flat_model.specs.declared.plugins.KindName.{KindName}
+use Rattle.flat_model.specs.declared.plugins.KindName.TheVariants.{Counts, Hot, Mem, Exec, Classes, Pages, Own}
+use Rattle.flat_model.specs.declared.plugins.Kind.{Kind}
+use Rattle.flat_model.specs.declared.plugins.Ask.TheVariants.{Stay}
+use Rattle.flat_model.specs.declared.plugins.Op.{Op}
+use Rattle.flat_model.specs.declared.plugins.Op.TheVariants.{Add, Store}
+use Rattle.flat_model.specs.declared.plugins.Cond.{Cond}
+use Rattle.flat_model.specs.declared.plugins.Act.{Act}
+use Rattle.flat_model.specs.declared.plugins.Act.TheVariants as acts
+use Rattle.flat_model.specs.declared.plugins.Filter.{Filter}
+use Rattle.flat_model.specs.declared.plugins.Sub.{Sub}
+use Rattle.run_script.specs.declared.refusals.SpecRule.{SpecRule}
+use Rattle.run_script.specs.declared.refusals.SpecRule.TheVariants.{Name, Number}
+use Rattle.run_script.specs.declared.heads.Head.{Head}
+use Rattle.run_script.specs.declared.heads.Head.TheVariants.{Boxed, Inline, When}
+use Rattle.run_script.specs.declared.items.Items.{Items}
+use Rattle.run_script.specs.Bytes.{before, after, tail_len}
+use Rattle.run_script.specs.Numbers.{number, entry_number}
+use Rattle.run_script.specs.Names.{kind_named, cond_named}
+
+abbrev pub inline_of : Op → Option ℕ → Option ℕ → Result Head SpecRule
+inline_of op None imm = Err Number
+inline_of op (Some entry) None = Err Number
+inline_of op (Some entry) (Some imm) = Ok (Inline op entry imm)
+
+abbrev pub inline_after : Op → List ℕ → Option (List ℕ) → Result Head SpecRule
+inline_after op entry None = Err Name
+inline_after op entry (Some imm) = inline_of op (entry_number entry) (number 10 20 imm)
+
+-- an entry and a number
+unfoldable pub inline_head : Op → List ℕ → Result Head SpecRule
+inline_head op text = inline_after op (before 58 text) (after 58 text)
+
+abbrev pub when_of : Cond → KindName → Option ℕ → Option ℕ → Result Head SpecRule
+when_of cond kind None imm = Err Number
+when_of cond kind (Some entry) None = Err Number
+when_of cond kind (Some entry) (Some imm) = Ok (When cond entry imm kind)
+
+abbrev pub when_numbers : Cond → KindName → List ℕ → Option (List ℕ) → Result Head SpecRule
+when_numbers cond kind entry None = Err Name
+when_numbers cond kind entry (Some imm) = when_of cond kind (entry_number entry) (number 10 20 imm)
+
+abbrev pub when_named : Option Cond → Option KindName → List ℕ → Result Head SpecRule
+when_named None kind text = Err Name
+when_named (Some cond) None text = Err Name
+when_named (Some cond) (Some kind) text = when_numbers cond kind (before 58 text) (after 58 text)
+
+-- the kind stands after the last colon, and an entry and a number before it
+abbrev pub when_tail : Option Cond → List ℕ → Option ℕ → Result Head SpecRule
+when_tail cond text None = Err Name
+when_tail cond text (Some n) =
+    when_named cond (kind_named (drop (length text - n) text)) (take (length text - n - 1) text)
+
+abbrev pub when_after : Option Cond → Option (List ℕ) → Result Head SpecRule
+when_after cond None = Err Name
+when_after cond (Some text) = when_tail cond text (tail_len 58 text)
+
+-- a condition, an entry, a number and a kind
+unfoldable pub when_head : List ℕ → Result Head SpecRule
+when_head text = when_after (cond_named (before 58 text)) (after 58 text)
+
+unfoldable pub worded_head : List ℕ → List ℕ → Result Head SpecRule
+worded_head word text =
+    if bytes_eq word (codes "add") then inline_head Add text
+    else if bytes_eq word (codes "set") then inline_head Store text
+    else if bytes_eq word (codes "when") then when_head text
+    else Err Name
+
+abbrev pub act_head : List ℕ → Option (List ℕ) → Result Head SpecRule
+act_head word None = Err Name
+act_head word (Some text) = worded_head word text
+
+abbrev pub or_act : Option KindName → List ℕ → Result Head SpecRule
+or_act (Some kind) text = Ok (Boxed kind)
+or_act None text = act_head (before 58 text) (after 58 text)
+
+-- the head that a text spells
+unfoldable pub head_of : List ℕ → Result Head SpecRule
+head_of text = or_act (kind_named text) text
+
+-- the head is a kind's name or begins with `when:`
+unfoldable pub calls_a_box : List ℕ → Bool
+calls_a_box text = is_some (kind_named text) || (bytes_eq (before 58 text) (codes "when") && is_some (after 58 text))
+
+abbrev pub is_when : Head → Bool
+is_when (Boxed kind) = false
+is_when (Inline op entry imm) = false
+is_when (When cond entry imm kind) = true
+
+-- a kind without a quota
+abbrev pub plain : KindName → Kind
+plain name = record { name = name; quota = 0; ask = Stay; asks_at_quota = refl }
+
+-- the events that a kind hears where no item says them
+abbrev pub kind_events : KindName → ℕ
+kind_events Counts = 127
+kind_events Hot = 2
+kind_events Mem = 8
+kind_events Exec = 4
+kind_events Classes = 4
+kind_events Pages = 8
+kind_events (Own n) = 4
+
+abbrev pub usual_events : Head → ℕ
+usual_events (Boxed kind) = kind_events kind
+usual_events (Inline op entry imm) = 4
+usual_events (When cond entry imm kind) = 4
+
+abbrev pub act_of : Head → Items → Act
+act_of (Boxed kind) items = acts.Call (plain kind)
+act_of (Inline op entry imm) items = acts.Inline op entry imm
+act_of (When cond entry imm kind) items = acts.Cond cond entry imm items.then_store (plain kind)
+
+-- the filter of the items, with its defaults
+abbrev pub filter_of : Head → Items → Filter
+filter_of head items =
+    let span = unwrap_or items.pc (record { lo = 0; hi = 2 ^ 64 - 1 }) in
+    record {
+      kinds = unwrap_or items.kinds (usual_events head) % 256;
+      lo = span.lo;
+      hi = span.hi;
+      classes = unwrap_or items.classes 511;
+      rw = unwrap_or items.rw 3;
+    }
+
+abbrev pub sub_of : Head → Items → Sub
+sub_of head items = record { filter = filter_of head items; act = act_of head items }
+
+-- how many entries a head needs
+abbrev pub entries_of : Head → ℕ
+entries_of (Boxed kind) = 0
+entries_of (Inline op entry imm) = entry + 1
+entries_of (When cond entry imm kind) = entry + 1
+
+-- an entry is at most 63
+abbrev pub EntryFits : Head → Type 0
+EntryFits (Boxed kind) = Unit {0}
+EntryFits (Inline op entry imm) = entry ≤ 63
+EntryFits (When cond entry imm kind) = entry ≤ 63

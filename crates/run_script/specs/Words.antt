@@ -1,0 +1,83 @@
+-- What a plug-in word spells: a set, or the first refusal with its column. Parts stand between the signs
+-- `+`, and in a part a head and its items between commas.
+use Rattle.std.specs.Prelude.{ℕ, ◌+◌, ◌≡◌, ◌&&◌, max, nat_le, Bool, if◌then◌else◌, List, [], ◌∷◌, ◌++◌, length, Option, Some, None, Result, Ok, Err}
+use Rattle.flat_model.specs.declared.plugins.SetSpec.{SetSpec}
+use Rattle.flat_model.specs.declared.refusals.Refused.{Refused}
+use Rattle.flat_model.specs.declared.refusals.Refused.TheVariants.{Because, NoMemory}
+use Rattle.flat_model.specs.Registry.{calling}
+use Rattle.run_script.specs.declared.refusals.SpecRule.{SpecRule}
+use Rattle.run_script.specs.declared.refusals.SpecRule.TheVariants.{Subs, Boxes}
+use Rattle.run_script.specs.declared.refusals.SpecRefusal.{SpecRefusal}
+use Rattle.run_script.specs.declared.heads.Head.{Head}
+use Rattle.run_script.specs.declared.items.Items.{Items}
+use Rattle.run_script.specs.declared.words.Draft.{Draft}
+use Rattle.run_script.specs.Bytes.{pieces, before, after}
+use Rattle.run_script.specs.Items.{item_of, with_item, no_items}
+use Rattle.run_script.specs.Heads.{head_of, calls_a_box, is_when, sub_of, entries_of}
+
+-- what follows where nothing was refused
+abbrev pub next : {A B E : Type 0} → Result A E → (A → Result B E) → Result B E
+next (Ok x) f = f x
+next (Err why) f = Err why
+
+-- a rule that is broken at a column
+abbrev pub placed : {A : Type 0} → ℕ → Result A SpecRule → Result A SpecRefusal
+placed column (Ok x) = Ok x
+placed column (Err rule) = Err (record { column = column; rule = rule })
+
+-- the items with the one that a text spells
+unfoldable pub with_text : Bool → Items → List ℕ → Result Items SpecRule
+with_text when items text = next (item_of text) (with_item when items)
+
+-- the items with those that texts spell, of which the first begins at the column
+abbrev pub items_from : Bool → ℕ → Items → List (List ℕ) → Result Items SpecRefusal
+items_from when column items [] = Ok items
+items_from when column items (text ∷ more) =
+    next (placed column (with_text when items text)) (λ now. items_from when (column + length text + 1) now more)
+
+-- the items after a head, where it has any
+abbrev pub items_after : Bool → ℕ → Option (List ℕ) → Result Items SpecRefusal
+items_after when column None = Ok no_items
+items_after when column (Some text) = items_from when column no_items (pieces 44 text)
+
+-- a set with one more subscription
+abbrev pub with_sub : SetSpec → Head → Items → SetSpec
+with_sub set head items =
+    record { entries = max set.entries (entries_of head); subs = set.subs ++ sub_of head items ∷ [] }
+
+-- a set with the part of a head and what stands after it
+abbrev pub with_head : ℕ → SetSpec → ℕ → Option (List ℕ) → Head → Result SetSpec SpecRefusal
+with_head column set len rest head =
+    next (items_after (is_when head) (column + len + 1) rest) (λ items. Ok (with_sub set head items))
+
+-- the rules of a part's number, which come before its own
+unfoldable pub with_room : SetSpec → List ℕ → Result Head SpecRule
+with_room set text =
+    if nat_le 16 (length set.subs) then Err Subs
+    else if calls_a_box text && nat_le 2 (calling set.subs) then Err Boxes
+    else head_of text
+
+-- a set with the part that a text spells
+unfoldable pub with_part : ℕ → SetSpec → List ℕ → Result SetSpec SpecRefusal
+with_part column set text =
+    next (placed column (with_room set (before 44 text))) (with_head column set (length (before 44 text)) (after 44 text))
+
+-- a set with the parts that texts spell, of which the first begins at the column
+abbrev pub parts_from : ℕ → SetSpec → List (List ℕ) → Result SetSpec SpecRefusal
+parts_from column set [] = Ok set
+parts_from column set (text ∷ more) =
+    next (with_part column set text) (λ now. parts_from (column + length text + 1) now more)
+
+-- what a plug-in word spells
+abbrev pub spelt : List ℕ → Result SetSpec SpecRefusal
+spelt word = parts_from 1 (record { entries = 0; subs = [] }) (pieces 43 word)
+
+-- the set that a draft has so far
+abbrev pub drafted : Draft → SetSpec
+drafted draft = record { entries = draft.entries; subs = draft.subs.items }
+
+-- an answer is what is spelt, want of memory aside
+abbrev pub Gives : {A : Type 0} → (A → SetSpec) → Result A (Refused SpecRefusal) → Result SetSpec SpecRefusal → Type 0
+Gives view (Ok x) word = word ≡ Ok (view x)
+Gives view (Err (Because why)) word = word ≡ Err why
+Gives view (Err NoMemory) word = Unit {0}

@@ -1,0 +1,180 @@
+//! Plug-in words.
+
+ghost use Rattle.std.specs.Prelude.{◌≡◌, ◌+◌, ◌<◌, ◌≤◌, ◌^◌, length, option_map, IfOk, OnOk};
+ghost use Rattle.std.specs.Option.{ForSome};
+ghost use Rattle.run_script.specs.Bytes.{pieces};
+ghost use Rattle.run_script.specs.Words.{placed, with_text, items_from, items_after, with_head, with_room, with_part, parts_from, spelt, drafted, Gives};
+ghost use Rattle.run_script.specs.Heads.{EntryFits};
+ghost use Rattle.flat_model.specs.Registry.{calls, calling};
+
+use super::bytes::cut;
+use super::heads::{Head, calls_a_box, entries_of, head_of, is_when, sub_of};
+use super::items::{Items, item_of, with_item};
+use super::refusals::{SpecRefusal, SpecRule};
+use flat_model::{Act, Refused, SetSpec, Sub, Subs};
+use std::alloc::Global;
+
+/// The most parts of a word, and how many of them may call.
+const PARTS: usize = 16;
+
+const CALLING: usize = 2;
+
+/// A set that is being read.
+#[derive(Drop)]
+pub struct Draft {
+    pub entries: u8,
+    pub subs: Vec<Sub>,
+}
+
+#[tactic(auto, unfolding(crate::specs::Words::with_text))]
+fn with_text(when: bool, items: Items, text: &[u8]) -> Result<Items, SpecRule>
+    ensures { result ≡ with_text when items text.now }
+{
+    match item_of(text) {
+        Ok(item) => with_item(when, items, item),
+        Err(rule) => Err(rule),
+    }
+}
+
+fn placed_text(when: bool, column: u64, items: Items, text: &[u8]) -> Result<Items, SpecRefusal>
+    ensures { result ≡ placed column (with_text when items text.now) }
+{
+    match with_text(when, items, text) {
+        Ok(now) => Ok(now),
+        Err(rule) => Err(SpecRefusal { column, rule }),
+    }
+}
+
+#[tactic(auto, using(crate::proofs::Cuts::whole, crate::proofs::Cuts::first_off))]
+fn items_from(when: bool, column: u64, items: Items, text: &[u8]) -> Result<Items, SpecRefusal>
+    requires { column + length text.now < 2 ^ 64 }
+    ensures { result ≡ items_from when column items (pieces 44 text.now) }
+{
+    let (piece, rest) = cut(text, b',');
+    match placed_text(when, column, items, piece) {
+        Err(why) => Err(why),
+        Ok(now) => match rest {
+            None => Ok(now),
+            Some(rest) => items_from(when, column + piece.len() as u64 + 1, now, rest),
+        },
+    }
+}
+
+fn items_after(when: bool, column: u64, rest: Option<&[u8]>) -> Result<Items, SpecRefusal>
+    requires { ForSome rest (λ text. column + length text.now < 2 ^ 64) }
+    ensures { result ≡ items_after when column (option_map (λ text. text.now) rest.entry) }
+{
+    let items = Items {
+        kinds: None,
+        pc: None,
+        classes: None,
+        rw: None,
+        then_store: None,
+    };
+    match rest {
+        None => Ok(items),
+        Some(text) => items_from(when, column, items, text),
+    }
+}
+
+fn calling(subs: &[Sub]) -> usize
+    ensures { result ≡ calling subs.now }
+{
+    subs.iter().filter(|sub| calls(&sub.act)).count()
+}
+
+fn calls(act: &Act) -> bool
+    ensures { result ≡ calls act.now }
+{
+    match act {
+        Act::Call { .. } | Act::Cond { .. } => true,
+        Act::Inline { .. } => false,
+    }
+}
+
+#[tactic(auto, unfolding(crate::specs::Words::with_room))]
+fn with_room(subs: &[Sub], entries: u8, text: &[u8]) -> Result<Head, SpecRule>
+    ensures value { result ≡ with_room (record { entries = entries; subs = subs.now }) text.now }
+    ensures room { OnOk result (length subs.now < 16) }
+    ensures small { IfOk result EntryFits }
+{
+    if subs.len() >= PARTS {
+        return Err(SpecRule::Subs);
+    }
+    if calls_a_box(text) && calling(subs) >= CALLING {
+        return Err(SpecRule::Boxes);
+    }
+    head_of(text)
+}
+
+fn with_head(
+    column: u64,
+    mut draft: Draft,
+    len: usize,
+    rest: Option<&[u8]>,
+    head: Head,
+) -> Result<Draft, Refused<SpecRefusal>>
+    requires small { EntryFits head }
+    requires columns { ForSome rest (λ text. column + len + 1 + length text.now < 2 ^ 64) }
+    requires fits { column + len + 1 < 2 ^ 64 }
+    ensures value { Gives drafted result
+        (with_head column (drafted draft) len (option_map (λ text. text.now) rest.entry) head) }
+    ensures one { IfOk result (λ now. length now.subs.items ≡ length draft.subs.items + 1) }
+{
+    match items_after(is_when(head), column + len as u64 + 1, rest) {
+        Err(why) => Err(Refused::Because(why)),
+        Ok(items) => {
+            draft.entries = draft.entries.max(entries_of(head));
+            match draft.subs.push(sub_of(head, items)) {
+                Ok(()) => Ok(draft),
+                Err(_) => Err(Refused::NoMemory),
+            }
+        }
+    }
+}
+
+#[tactic(auto, unfolding(crate::specs::Words::with_part))]
+fn with_part(column: u64, draft: Draft, text: &[u8]) -> Result<Draft, Refused<SpecRefusal>>
+    requires { column + length text.now + 1 < 2 ^ 64 }
+    ensures value { Gives drafted result (with_part column (drafted draft) text.now) }
+    ensures few { IfOk result (λ now. length now.subs.items ≤ 16) }
+{
+    let (first, rest) = cut(text, b',');
+    match with_room(&draft.subs, draft.entries, first) {
+        Err(rule) => Err(Refused::Because(SpecRefusal { column, rule })),
+        Ok(head) => with_head(column, draft, first.len(), rest, head),
+    }
+}
+
+#[tactic(auto, using(crate::proofs::Cuts::whole, crate::proofs::Cuts::first_off))]
+fn parts_from(column: u64, draft: Draft, text: &[u8]) -> Result<Draft, Refused<SpecRefusal>>
+    requires { column + length text.now + 1 < 2 ^ 64 }
+    ensures value { Gives drafted result (parts_from column (drafted draft) (pieces 43 text.now)) }
+    ensures few { IfOk result (λ now. length now.subs.items ≤ 16) }
+{
+    let (piece, rest) = cut(text, b'+');
+    match with_part(column, draft, piece) {
+        Err(why) => Err(why),
+        Ok(now) => match rest {
+            None => Ok(now),
+            Some(rest) => parts_from(column + piece.len() as u64 + 1, now, rest),
+        },
+    }
+}
+
+/// The set that a plug-in word spells. The refusal is the first one, and its column is in bytes from 1.
+pub fn plugin_word(alloc: Global, text: &str) -> Result<SetSpec, Refused<SpecRefusal>>
+    ensures { Gives (λ set. set) result (spelt text.now) }
+{
+    let draft = Draft {
+        entries: 0,
+        subs: Vec::new(alloc),
+    };
+    match parts_from(1, draft, text.as_bytes()) {
+        Err(why) => Err(why),
+        Ok(draft) => Ok(SetSpec {
+            entries: draft.entries,
+            subs: Subs::new(draft.subs),
+        }),
+    }
+}
