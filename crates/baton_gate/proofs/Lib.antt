@@ -1,0 +1,4 @@
+pub mod LogLemmas
+pub mod ViewLists
+pub mod Keeps
+pub mod NewPasses

@@ -1,0 +1,4 @@
+pub mod FreePasses
+pub mod ShelfLemmas
+pub mod TurnLemmas
+pub mod BothLemmas
