@@ -1,0 +1,12 @@
+use Rattle.std.proofs.Common.{◌≡◌, ◌≤◌, ◌-◌}
+use Rattle.host_cli.specs.Listings.{listing_below}
+use Rattle.host_cli.proofs.listings.regions_text.Given as goal
+
+abbrev pub invariant-loop-base : goal.invariant-loop-base
+invariant-loop-base l = record {
+  text : l.text.items ≡ listing_below l.regions l.from;
+  within : l.from ≤ 0x3FFFC00001;
+}
+
+abbrev pub decreases-loop-base : goal.decreases-loop-base
+decreases-loop-base l = 0x4000000000 - l.from

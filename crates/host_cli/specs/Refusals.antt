@@ -1,0 +1,90 @@
+-- Why a call is refused: the causes, the statuses and the printed lines; `docs/top-call.md` lists them.
+use Rattle.std.specs.Prelude.{◌≡◌, ◌⊎◌, ℕ, Bool, List, ◌++◌, codes, Option, None, IsTrue, MatchBool}
+use Rattle.std.specs.Fmt.{decimal}
+use Rattle.flat_model.specs.Image.{Program}
+use Rattle.flat_model.specs.Texts.{hex}
+use Rattle.outer_io.specs.Counts.{Rose}
+use Rattle.outer_io.specs.Files.{IsLonger}
+use Rattle.elf_image.specs.declared.refusals.ImageRefusal.{ImageRefusal}
+use Rattle.elf_image.specs.declared.refusals.ImageRefusal.TheVariants.{Short, NotElf, NotRv64, NotStatic, Compressed, BadHeaders, HeadersPastEnd, Interpreted, TooMany, SegmentPastEnd, SizesCross, AddressRange, WritableCode, Overlap, TooLarge, EntryNotCode}
+use Rattle.elf_image.specs.Loads.{Refuses}
+use Rattle.host_cli.specs.declared.refusals.Refusal.{Refusal}
+use Rattle.host_cli.specs.declared.refusals.Refusal.TheVariants.{Usage, CannotRead, TooLong, Image, NotBuilt, OutOfMemory}
+use Rattle.host_cli.specs.Words.{verb_of}
+use Rattle.host_cli.specs.Runs.{WasRead, SomeDoNotRun}
+
+-- what a call is given, and what the file that it names holds, where told; the reads' faults before and after
+pub record Given : Type 0 where
+  pub words : List (List ℕ)
+  pub told : Bool
+  pub held : Option (List ℕ)
+  pub faults_before : ℕ
+  pub faults_now : ℕ
+
+-- why a file of these bytes gives no image
+abbrev pub BytesCause : Refusal → List ℕ → Type 0
+BytesCause (Image refusal) bytes = Refuses bytes refusal
+BytesCause OutOfMemory bytes = Unit {0}
+BytesCause _ bytes = ⊥
+
+-- why a file that was named gives no image. Want of memory needs no cause
+abbrev pub FileCause : Refusal → Bool → Option (List ℕ) → ℕ → ℕ → Type 0
+FileCause Usage told held before now = ⊥
+FileCause CannotRead told held before now = Rose before now ⊎ (IsTrue told × (held ≡ None))
+FileCause TooLong told held before now = MatchBool told (IsLonger held 67108864) (Rose before now)
+FileCause (Image refusal) told held before now = (bytes : List ℕ) × WasRead told held bytes × Refuses bytes refusal
+FileCause NotBuilt told held before now = ⊥
+FileCause OutOfMemory told held before now = Unit {0}
+
+-- why a call has no image: words that ask for nothing, or the file that they name
+abbrev pub HasCause : Refusal → Given → Type 0
+HasCause Usage given = verb_of given.words ≡ None
+HasCause refusal given = FileCause refusal given.told given.held given.faults_before given.faults_now
+
+-- why an image does no run
+abbrev pub RunCause : Refusal → Program → Type 0
+RunCause NotBuilt image = SomeDoNotRun image
+RunCause OutOfMemory image = Unit {0}
+RunCause _ image = ⊥
+
+abbrev pub refusal_status : Refusal → ℕ
+refusal_status Usage = 2
+refusal_status CannotRead = 3
+refusal_status TooLong = 3
+refusal_status (Image refusal) = 4
+refusal_status NotBuilt = 4
+refusal_status OutOfMemory = 7
+
+abbrev pub index_text : List ℕ → ℕ → List ℕ → List ℕ
+index_text before index after = before ++ (decimal index ++ after)
+
+-- the text of each rule that a file breaks
+abbrev pub image_text : ImageRefusal → List ℕ
+image_text (Short need got) = codes "file too short: need " ++ (decimal need ++ (codes ", got " ++ decimal got))
+image_text NotElf = codes "not ELF"
+image_text NotRv64 = codes "not little-endian ELF64 for RISC-V"
+image_text NotStatic = codes "not a static executable"
+image_text Compressed = codes "compressed instructions"
+image_text (BadHeaders size) = codes "program header size " ++ decimal size
+image_text (HeadersPastEnd need got) = codes "program headers past the end: need " ++ (decimal need ++ (codes ", got " ++ decimal got))
+image_text (Interpreted index) = codes "needs an interpreter: header " ++ decimal index
+image_text (TooMany count) = decimal count ++ codes " loadable segments"
+image_text (SegmentPastEnd index) = index_text (codes "segment ") index (codes " past the end of the file")
+image_text (SizesCross index) = index_text (codes "segment ") index (codes " larger in the file than in memory")
+image_text (AddressRange index) = index_text (codes "segment ") index (codes " out of the address range")
+image_text (WritableCode index) = index_text (codes "segment ") index (codes " writable and executable")
+image_text (Overlap first second) = codes "segments " ++ (decimal first ++ (codes " and " ++ (decimal second ++ codes " overlap")))
+image_text (TooLarge bytes) = decimal bytes ++ codes " bytes of memory"
+image_text (EntryNotCode entry) = codes "entry 0x" ++ (hex 16 entry ++ codes " is not code")
+
+-- the text of a refusal, for the file of this name
+abbrev pub refusal_text : List ℕ → Refusal → List ℕ
+refusal_text name Usage = codes "not built"
+refusal_text name CannotRead = codes "cannot read " ++ name
+refusal_text name TooLong = name ++ codes " is longer than 67108864 bytes"
+refusal_text name (Image refusal) = codes "image: " ++ image_text refusal
+refusal_text name NotBuilt = codes "image: not built"
+refusal_text name OutOfMemory = codes "out of memory"
+
+abbrev pub refusal_line : List ℕ → Refusal → List ℕ
+refusal_line name refusal = codes "tcg_host: " ++ (refusal_text name refusal ++ codes "\n")

@@ -1,0 +1,16 @@
+//! The top call: words to bytes and a status.
+#![tactic(auto)]
+
+pub use outcomes::{OneEnded, host_one};
+pub use refusals::Refusal;
+pub use words::Verb;
+
+mod built;
+mod hart_lines;
+mod listings;
+mod outcomes;
+mod pieces;
+mod refusals;
+mod single_hart;
+mod texts;
+mod words;

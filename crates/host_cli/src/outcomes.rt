@@ -1,0 +1,240 @@
+//! The top call of one hart.
+
+ghost use Rattle.std.specs.Prelude.{◌≡◌, ◌⊎◌, ℕ, [], ◌∷◌, map, string_bytes, MatchResult, None, Some, All, vec_len, ◌<◌, ◌≢◌};
+ghost use Rattle.host_cli.specs.Boxes.{FirstHeard, events_of};
+ghost use Rattle.outer_io.specs.Counts.{Rose, IsCount};
+ghost use Rattle.host_cli.specs.Words.{verb_of, file_of};
+ghost use Rattle.host_cli.specs.Runs.{IsImageOf, AllRun, HasRun};
+ghost use Rattle.host_cli.specs.Refusals.{HasCause, FileCause, BytesCause, RunCause, refusal_line, refusal_status};
+ghost use Rattle.host_cli.specs.Answers.{Says, StopsAt, Answers, RunAnswers, ListAnswers, line_of, PutRefusal, Reports};
+ghost use Rattle.elf_image.specs.Loads.{Loads};
+ghost use Rattle.flat_model.specs.Texts.{status_of};
+
+use crate::built::all_run;
+use crate::hart_lines::hart_line;
+use crate::listings::listing;
+use crate::pieces::put_pieces;
+use crate::refusals::{Refusal, refusal_line};
+use crate::single_hart::run_watched;
+use crate::words::{Verb, asked_verb, file_name};
+use elf_image::load;
+use flat_model::{Ending, Image, Refused};
+use outer_io::{FileFault, Files, Sink};
+use rv_exec::Hart;
+use std::alloc::Global;
+use watcher_api::Watcher;
+
+/// The bytes of a file at most.
+const FILE_LIMIT: usize = 67_108_864;
+
+/// What `host_one` answers: the status of the process, the hart where a run was made, and the boxes.
+#[derive(Drop)]
+pub struct OneEnded<W: Drop> {
+    pub status: u8,
+    pub hart: Option<Hart>,
+    pub watchers: Vec<W>,
+}
+
+/// Puts the line of a refusal, and answers its status. Where the line finds no memory, it is that of want of memory.
+fn refuse<E: Sink>(alloc: Global, report: &mut E, name: &str, refusal: &Refusal) -> u8
+    ensures refused { PutRefusal name.now refusal.now result (record { before = E.contents report.old; now = E.contents report.new; faults_before = E.faults report.old; faults_now = E.faults report.new }) }
+{
+    match refusal_line(alloc, name, refusal) {
+        Ok(line) => {
+            let _ = report.put(line.as_slice());
+            refusal.status()
+        }
+        Err(_) => {
+            let _ = report.put(b"tcg_host: out of memory\n");
+            Refusal::OutOfMemory.status()
+        }
+    }
+}
+
+/// Puts the line of want of memory, and answers its status.
+fn refuse_for_memory<E: Sink>(alloc: Global, report: &mut E, name: &str) -> u8
+    ensures refused { PutRefusal name.now Refusal.OutOfMemory result (record { before = E.contents report.old; now = E.contents report.new; faults_before = E.faults report.old; faults_now = E.faults report.new }) }
+    ensures status { result ≡ 7 }
+{
+    refuse(alloc, report, name, &Refusal::OutOfMemory)
+}
+
+/// Reads the file of this name and loads it.
+fn named_image<F: Files>(alloc: Global, files: &mut F, name: &str) -> Result<Image, Refusal>
+    ensures cases { MatchResult result
+        (λ image. IsImageOf (F.told files.old) (F.contents files.old name.now) image)
+        (λ refusal. FileCause refusal (F.told files.old) (F.contents files.old name.now) (F.read_faults files.old) (F.read_faults files.new)) }
+    ensures count { IsCount (F.read_faults files.old) (F.read_faults files.new) }
+    ensures writes { F.write_faults files.new ≡ F.write_faults files.old }
+    ensures still_told { F.told files.new ≡ F.told files.old }
+    ensures unchanged { F.contents files.new ≡ F.contents files.old }
+{
+    let mut bytes = Vec::new(alloc);
+    match files.read(name, FILE_LIMIT, &mut bytes) {
+        Ok(()) => image_of_bytes(alloc, bytes.as_slice()),
+        Err(FileFault::Failed | FileFault::Missing) => Err(Refusal::CannotRead),
+        Err(FileFault::TooLong) => Err(Refusal::TooLong),
+        Err(FileFault::NoMemory) => Err(Refusal::OutOfMemory),
+    }
+}
+
+/// Loads the bytes of a file.
+fn image_of_bytes(alloc: Global, bytes: &[u8]) -> Result<Image, Refusal>
+    ensures cases { MatchResult result (λ image. Loads bytes.now image) (λ refusal. BytesCause refusal bytes.now) }
+{
+    match load(alloc, bytes) {
+        Ok(image) => Ok(image),
+        Err(Refused::Because(refusal)) => Err(Refusal::Image(refusal)),
+        Err(Refused::NoMemory) => Err(Refusal::OutOfMemory),
+    }
+}
+
+/// The status of a hart that has ended.
+fn hart_status(hart: &Hart) -> u8
+    ensures status { result ≡ status_of None (hart.now.ending ∷ []) }
+{
+    match hart.ending {
+        Some(Ending::Fault { .. }) => 8,
+        Some(Ending::Limit) => 9,
+        Some(Ending::Exited(code)) => u8::from(code != 0),
+        Some(Ending::Group) | None => 0,
+    }
+}
+
+/// Puts the line of a hart that has run, and answers the status.
+fn report_hart<E: Sink>(alloc: Global, report: &mut E, hart: &Hart) -> u8
+    ensures reported { Reports hart.now (record { before = E.contents report.old; now = E.contents report.new; faults_before = E.faults report.old; faults_now = E.faults report.new }) result }
+{
+    let Ok(line) = hart_line(alloc, 0, None, hart) else {
+        let _ = report.put(b"tcg_host: out of memory\n");
+        return 7;
+    };
+    match report.put(line.as_slice()) {
+        Ok(()) => hart_status(hart),
+        Err(_) => 6,
+    }
+}
+
+/// Runs the image on one hart, and reports how the hart ended.
+fn run_image<W: Watcher, E: Sink>(
+    alloc: Global,
+    report: &mut E,
+    name: &str,
+    image: &Image,
+    watchers: Vec<W>,
+) -> OneEnded<W>
+    requires some { 0 < vec_len watchers }
+    requires blank { All (λ w. W.kind_of w ≡ None) watchers.items }
+    ensures answers { RunAnswers name.now image.now
+        (record { before = E.contents report.old; now = E.contents report.new; faults_before = E.faults report.old; faults_now = E.faults report.new })
+        (λ hart. FirstHeard W.kind_of W.stands watchers.items result.watchers.items (events_of image.now hart))
+        result.status result.hart }
+    ensures all_back { vec_len result.watchers ≡ vec_len watchers }
+    ensures untouched { result.status ≢ 7 → result.hart ≡ None → result.watchers.items ≡ watchers.items }
+{
+    let mut watchers = watchers;
+    if !all_run(image) {
+        let status = refuse(alloc, report, name, &Refusal::NotBuilt);
+        return OneEnded {
+            status,
+            hart: None,
+            watchers,
+        };
+    }
+    let Ok(hart) = run_watched(alloc, image, &mut watchers) else {
+        let status = refuse_for_memory(alloc, report, name);
+        return OneEnded {
+            status,
+            hart: None,
+            watchers,
+        };
+    };
+    let status = report_hart(alloc, report, &hart);
+    OneEnded {
+        status,
+        hart: Some(hart),
+        watchers,
+    }
+}
+
+/// Lists the instructions of the image.
+fn list_image<O: Sink, E: Sink>(alloc: Global, out: &mut O, report: &mut E, image: &Image) -> u8
+    ensures answers { ListAnswers image.now
+        (record { before = O.contents out.old; now = O.contents out.new; faults_before = O.faults out.old; faults_now = O.faults out.new })
+        (record { before = E.contents report.old; now = E.contents report.new; faults_before = E.faults report.old; faults_now = E.faults report.new })
+        result }
+{
+    let Ok(text) = listing(alloc, image) else {
+        let _ = report.put(b"tcg_host: out of memory\n");
+        return 7;
+    };
+    match put_pieces(out, text.as_slice()) {
+        Ok(()) => 0,
+        Err(_) => 6,
+    }
+}
+
+/// Runs the file that the words name on one hart, or lists its instructions.
+///
+/// `out` takes what a command prints; `report` takes the line of a hart that has run, or that of a refusal. The first
+/// box hears every event of the run, as one of the kind Exec without a quota; all boxes are handed back.
+pub fn host_one<W: Watcher, F: Files, O: Sink, E: Sink>(
+    alloc: Global,
+    words: &[String],
+    files: &mut F,
+    out: &mut O,
+    report: &mut E,
+    watchers: Vec<W>,
+) -> OneEnded<W>
+    requires some { 0 < vec_len watchers }
+    requires blank { All (λ w. W.kind_of w ≡ None) watchers.items }
+
+    // The call ends in one of the stated ways.
+    ensures answers { Answers
+        (record { words = map string_bytes words.now; told = F.told files.old; held = F.contents files.old (file_of (map string_bytes words.now)); faults_before = F.read_faults files.old; faults_now = F.read_faults files.new })
+        (record { before = O.contents out.old; now = O.contents out.new; faults_before = O.faults out.old; faults_now = O.faults out.new })
+        (record { before = E.contents report.old; now = E.contents report.new; faults_before = E.faults report.old; faults_now = E.faults report.new })
+        (λ image hart. FirstHeard W.kind_of W.stands watchers.items result.watchers.items (events_of image hart))
+        result.status result.hart }
+
+    // All boxes are handed back, as they were where nothing ran and memory was there.
+    ensures all_back { vec_len result.watchers ≡ vec_len watchers }
+    ensures untouched { result.status ≢ 7 → result.hart ≡ None → result.watchers.items ≡ watchers.items }
+
+    // No file is changed.
+    ensures files { F.contents files.new ≡ F.contents files.old }
+    ensures still_told { F.told files.new ≡ F.told files.old }
+    ensures writes { F.write_faults files.new ≡ F.write_faults files.old }
+{
+    let name = file_name(words);
+    let Some(verb) = asked_verb(words) else {
+        let status = refuse(alloc, report, name, &Refusal::Usage);
+        return OneEnded {
+            status,
+            hart: None,
+            watchers,
+        };
+    };
+    let image = match named_image(alloc, files, name) {
+        Ok(image) => image,
+        Err(refusal) => {
+            let status = refuse(alloc, report, name, &refusal);
+            return OneEnded {
+                status,
+                hart: None,
+                watchers,
+            };
+        }
+    };
+    match verb {
+        Verb::Run => run_image(alloc, report, name, &image, watchers),
+        Verb::Disas => {
+            let status = list_image(alloc, out, report, &image);
+            OneEnded {
+                status,
+                hart: None,
+                watchers,
+            }
+        }
+    }
+}
