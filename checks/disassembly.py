@@ -13,7 +13,8 @@ from pathlib import Path
 
 TOP = Path(__file__).resolve().parent.parent
 PREFIX = "riscv64-unknown-elf-"
-FLAGS = ["-march=rv64ima", "-mabi=lp64", "-nostdlib", "-static", "-ffreestanding", "-fno-builtin", "-O1"]
+ARCHITECTURES = {".c": "rv64ima", ".S": "rv64ima_zifencei"}
+FLAGS = ["-mabi=lp64", "-nostdlib", "-static", "-ffreestanding", "-fno-builtin", "-O1"]
 BRANCHES = {"jal", "beq", "bne", "blt", "bge", "bltu", "bgeu"}
 
 
@@ -72,7 +73,8 @@ def main():
     with tempfile.TemporaryDirectory() as folder:
         for source in sorted((TOP / "examples" / "guests").glob("*.[cS]")):
             file = Path(folder) / (source.stem + ".elf")
-            subprocess.run([PREFIX + "gcc", *FLAGS, "-o", file, source], check=True)
+            architecture = "-march=" + ARCHITECTURES[source.suffix]
+            subprocess.run([PREFIX + "gcc", architecture, *FLAGS, "-o", file, source], check=True)
             mine = {pc: (word, text) for pc, word, text in listing(file)}
             words = 0
             for pc, word, text in objdump(file):

@@ -22,7 +22,7 @@ _start:
         amomaxu.w t1, t0, (s0)
         fence   rw, rw
         fence   iorw, w
-        .word   0x0000100f
+        fence.i
         mulhsu  t4, t1, t2
         remuw   t5, t1, t2
         sraiw   t6, t1, 31
