@@ -3,7 +3,7 @@ use Rattle.std.proofs.Common.{◌≡◌, ◌+◌, ◌-◌, ◌*◌, ◌/◌, ◌
 use Rattle.std.specs.Option.{option_map_or}
 use Rattle.std.proofs.lemmas.Bool.{false≢true, cases_order}
 use Rattle.flat_model.specs.Image.{Program, word_at}
-use Rattle.block_finder.specs.Length.{word_ends, EndsAt, StopsAfter, IsLength, counted, length_within, length_of, LengthIsOne, LengthIsComputed}
+use Rattle.flat_model.specs.Blocks.{word_ends, EndsAt, StopsAfter, IsLength, counted, length_within, length_of, LengthIsOne, LengthIsComputed}
 
 -- n is the length of the block at pc where so many words are in reach
 record IsWithin (image : Program) (pc left n : ℕ) : Type 0 where
@@ -104,6 +104,7 @@ reach : (pc left : ℕ) → pc % 4 ≡ 0 → left ≡ min 512 ((4096 - pc % 4096
 reach pc left aligned is = grind (arith, aligned, is)
 
 pub length_is_computed : LengthIsComputed
+unfolding length_of
 length_is_computed image pc aligned =
     let left = min 512 ((4096 - pc % 4096) / 4) in
     long image pc left (length_within image pc left) (omega (arith, aligned)) (omega (arith, aligned)) (reach pc left aligned refl) (within image pc left)
@@ -124,6 +125,3 @@ one_length image pc n m is other =
       | inr (inl less) ↦ absurd (shorter image pc n m is.stops other less)
       | inr (inr more) ↦ absurd (shorter image pc m n other.stops is more)
     ]
-
-pub is_computed : (image : Program) (pc n : ℕ) → pc % 4 ≡ 0 → IsLength image pc n → n ≡ length_of image pc
-is_computed image pc n aligned is = one_length image pc n (length_of image pc) is (length_is_computed image pc aligned)

@@ -1,3 +1,3 @@
 mod Computed
-mod Growing
 mod Images
+mod Walking

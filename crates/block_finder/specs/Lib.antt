@@ -1,1 +1,2 @@
-pub mod Length
+pub mod Block
+pub mod Walks

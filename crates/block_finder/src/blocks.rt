@@ -42,7 +42,7 @@ pub struct Block {
 }
 
 impl Model for Block {
-    ghost use Rattle.block_finder.specs.Length.{Stretch};
+    ghost use Rattle.block_finder.specs.Block.{Stretch};
 
     ghost Value = { Stretch };
 

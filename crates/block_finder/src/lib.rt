@@ -1,9 +1,9 @@
 //! Finds the block of code that begins at an address: straight-line code within one page, at most 512 words.
-//! `specs/Length.antt` says how long a block is.
+//! `flat_model`'s `specs/Blocks.antt` says how long a block is.
 #![tactic(auto)]
 
 pub use blocks::{Block, Site};
-pub use finding::find;
+pub use finding::{find, length};
 pub use laws::length_is_one;
 
 mod blocks;
@@ -11,3 +11,4 @@ mod finding;
 mod laws;
 #[cfg(test)]
 mod tests;
+mod walks;

@@ -2,7 +2,7 @@
 
 ghost use Rattle.std.specs.Prelude.{◌≤◌, length, IfOk};
 
-use crate::find;
+use crate::{find, length};
 use flat_model::{Image, Region};
 use std::alloc::{AllocError, Global};
 use std::test::Fail;
@@ -60,6 +60,7 @@ fn blocks_stop_at_512_words_at_the_page_and_at_an_absent_word(rt: HostRuntime) -
         let block = find(rt.alloc(), &image, pc / 4 * 4)?;
         assert_eq!(rt; block.n, n);
         assert_eq!(rt; block.sites.len(), n as usize);
+        assert_eq!(rt; length(&image, pc / 4 * 4), n);
     }
     Ok(())
 }

@@ -1,5 +1,5 @@
 -- The memory image that an ELF64 file gives: one segment for each PT_LOAD header, and the entry.
-use Rattle.std.specs.Prelude.{ℕ, ◌+◌, ◌-◌, ◌*◌, ◌%◌, ◌^◌, ◌≤◌, ◌≡◌, ◌⊎◌, ◌&&◌, ◌==◌, nat_le, Bool, true, false, if◌then◌else◌, List, length, slice_index, Option, Some, None, option_map, find, All, AllPairs}
+use Rattle.std.specs.Prelude.{ℕ, ◌+◌, ◌-◌, ◌*◌, ◌%◌, ◌^◌, ◌≤◌, ◌≡◌, ◌⊎◌, ◌&&◌, ◌==◌, nat_le, Bool, false, if◌then◌else◌, List, length, slice_index, Option, None, option_map, find, All, AllPairs}
 
 -- bytes at an address, with their permissions to read, write and execute
 pub record Segment : Type 0 where

@@ -3,8 +3,12 @@ pub mod Rows
 pub mod Instruction
 pub mod Image
 pub mod Permission
+pub mod Access
 pub mod World
+pub mod Arithmetic
 pub mod Effect
+pub mod Outcome
+pub mod Blocks
 pub mod Step
 pub mod Texts
 pub mod Asks

@@ -1,6 +1,6 @@
 -- The plug-ins of a run: their states, sets and duties, as the log's orders, Backs, Leaves and Dones make
 -- them. `docs/plug-ins.md` has the state table and the rules of orders.
-use Rattle.std.specs.Prelude.{ℕ, ◌+◌, ◌-◌, ◌*◌, ◌==◌, Bool, true, false, not, ◌||◌, ◌&&◌, nat_lt, nat_le, if◌then◌else◌, List, [], ◌∷◌, ◌++◌, length, map, replicate, count_by, position, slice_index, slice_index_or, slice_set, Option, Some, None, option_map, unwrap_or, is_some}
+use Rattle.std.specs.Prelude.{ℕ, ◌-◌, ◌*◌, Bool, true, false, not, ◌||◌, ◌&&◌, nat_lt, nat_le, if◌then◌else◌, List, [], ◌∷◌, ◌++◌, length, map, replicate, count_by, position, slice_index, slice_index_or, slice_set, Option, Some, None, option_map, unwrap_or, is_some}
 use Rattle.std.specs.List.{list_any}
 use Rattle.flat_model.specs.declared.plugins.Act.{Act}
 use Rattle.flat_model.specs.declared.plugins.Act.TheVariants.{Call, Inline, Cond}

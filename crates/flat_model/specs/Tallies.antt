@@ -1,5 +1,5 @@
 -- What a box of a kind tallies for the events that it heard, and what it asks; `docs/plug-ins.md` lists the rows.
-use Rattle.std.specs.Prelude.{ℕ, ◌==◌, Bool, if◌then◌else◌, List, [], take, Option, Some, None}
+use Rattle.std.specs.Prelude.{ℕ, ◌==◌, if◌then◌else◌, List, [], take, Option, Some, None}
 use Rattle.std.specs.List.{filter_map}
 use Rattle.flat_model.specs.declared.events.Event.{Event}
 use Rattle.flat_model.specs.declared.events.What.{What}

@@ -1,5 +1,5 @@
 -- The world of the flat machine: memory, reservations, output, the group's code, and the harts.
-use Rattle.std.specs.Prelude.{ℕ, ◌+◌, ◌-◌, ◌%◌, ◌<◌, ◌≤◌, ◌≡◌, length, List, [], replicate, slice_set, slice_index, Option, Some, None, option_map, find, unwrap_or, ℤ}
+use Rattle.std.specs.Prelude.{ℕ, ◌+◌, ◌-◌, ◌%◌, ◌<◌, ◌≤◌, ◌≡◌, length, List, [], replicate, slice_set, slice_index, Option, None, option_map, find, unwrap_or, ℤ}
 use Rattle.flat_model.specs.declared.events.Ending.{Ending}
 use Rattle.flat_model.specs.Image.{Segment, Program, holds}
 use Rattle.flat_model.specs.Permission.{stack_base}

@@ -1,8 +1,8 @@
 //! The memory image that a file gives.
 
-ghost use Rattle.std.specs.Prelude.{◌≡◌, ◌≤◌, ◌+◌, ◌&&◌, true, IfSome};
+ghost use Rattle.std.specs.Prelude.{◌≡◌, ◌≤◌, ◌+◌, ◌&&◌, true, IfSome, AllPairs};
 ghost use Rattle.std.specs.Option.{option_copied};
-ghost use Rattle.flat_model.specs.Image.{word_at, word_of, code_at, holds, end_of};
+ghost use Rattle.flat_model.specs.Image.{AreApart, word_at, word_of, code_at, holds, end_of};
 
 use std::marker::Model;
 
@@ -41,8 +41,8 @@ impl Region {
         ensures word { result ≡ word_of pc self.now }
     {
         let i = (pc - self.base) as usize;
-        let bytes = self.bytes.as_slice();
-        u32::from_le_bytes([bytes[i], bytes[i + 1], bytes[i + 2], bytes[i + 3]])
+        let four = &self.bytes[i..i + 4];
+        u32::from_le_bytes([four[0], four[1], four[2], four[3]])
     }
 }
 
@@ -77,8 +77,35 @@ impl Image {
     }
 }
 
-/// The region with the four bytes at `pc` as code.
+/// The place of the last region that begins by `pc` where the regions ascend, as in the files that linkers make;
+/// else it may be any.
+#[inline(always)]
+fn likely(regions: &[Region], pc: u64) -> usize {
+    regions
+        .partition_point(|region| region.base <= pc)
+        .saturating_sub(1)
+}
+
+/// The region with the four bytes at `pc` as code: the likely one where it has them, and else the one that has.
+#[inline(always)]
 fn code_region(regions: &[Region], pc: u64) -> Option<&Region>
+    requires apart { AllPairs AreApart regions.now }
+    ensures found { option_copied result ≡ code_at regions.now pc }
+    ensures code { IfSome result (λ r. (r.now.x && holds pc 4 r.now) ≡ true) }
+{
+    let guess = likely(regions, pc);
+    if guess < regions.len() {
+        let region = &regions[guess];
+        if region.has_code(pc) {
+            return Some(region);
+        }
+    }
+    search(regions, pc)
+}
+
+/// The first region with the four bytes at `pc` as code.
+#[inline(never)]
+fn search(regions: &[Region], pc: u64) -> Option<&Region>
     ensures found { option_copied result ≡ code_at regions.now pc }
     ensures code { IfSome result (λ r. (r.now.x && holds pc 4 r.now) ≡ true) }
 {

@@ -2,7 +2,7 @@
 //! the flat machine, the instruction table, the journal's log and the texts.
 #![tactic(auto)]
 
-pub use effects::Done;
+pub use effects::{Done, Effect};
 pub use events::{Class, Ending, Event, FaultKind, What};
 pub use images::{Image, Region};
 pub use instructions::{AtomicOp, BranchOp, ImmOp, Ins, LoadOp, RegOp, StoreOp};

@@ -1,9 +1,9 @@
 -- Numbers and the bytes that hold them.
-use Rattle.std.proofs.Common.{◌≡◌, ℕ, zero, suc, ◌+◌, ◌-◌, ◌<◌, ◌≤◌, ◌++◌, List, [], ◌∷◌, length, take, drop, get_or, refl, ap, ◌∙◌, arith, drop-cons}
-use Rattle.std.proofs.lemmas.List.{get_or-drop}
+use Rattle.std.proofs.Common.{◌≡◌, ℕ, zero, suc, ◌+◌, ◌-◌, ◌<◌, ◌≤◌, ◌++◌, List, [], ◌∷◌, length, take, drop, get_or, refl, ap, ◌∙◌, arith, drop-cons, append_assoc}
+use Rattle.std.proofs.lemmas.List.{get_or-drop, append-nil}
 use Rattle.std.proofs.Math.Path.{fun_ext}
 use Rattle.std.specs.Int.{sum_through, byte_worth, from_le_bytes, w64}
-use Rattle.guest_memory.specs.Access.{number_of, bytes_from}
+use Rattle.flat_model.specs.Access.{number_of, bytes_from}
 
 -- a number is told by its bytes
 pub number_same : (xs ys : List ℕ) → ((k : ℕ) → get_or xs k 0 ≡ get_or ys k 0) → number_of xs ≡ number_of ys
@@ -43,6 +43,25 @@ pub bytes_length : (b : ℕ → ℕ) (addr n : ℕ) → length (bytes_from b add
 unfolding bytes_from
 bytes_length b addr zero = refl
 bytes_length b addr (suc n) = ap suc (bytes_length b (addr + 1) n)
+
+-- a run of bytes, and those behind it
+pub bytes_joined : (b : ℕ → ℕ) (addr m k : ℕ) → bytes_from b addr (m + k) ≡ bytes_from b addr m ++ bytes_from b (addr + m) k
+unfolding bytes_from
+bytes_joined b addr zero k = let e : addr + 0 ≡ addr = omega arith in let f : 0 + k ≡ k = omega arith in rw (e, f) refl
+bytes_joined b addr (suc m) k =
+    let e : suc m + k ≡ suc (m + k) = omega arith in
+    let f : addr + suc m ≡ addr + 1 + m = omega arith in
+    rw (e, f) (ap (λ l. b addr ∷ l) (bytes_joined b (addr + 1) m k))
+
+-- bytes with a run appended, and what is left to append
+pub appended_more : (b : ℕ → ℕ) (before after : List ℕ) (addr m n : ℕ) → m ≤ n → after ≡ before ++ bytes_from b addr m → after ++ bytes_from b (addr + m) (n - m) ≡ before ++ bytes_from b addr n
+appended_more b before after addr m n part e =
+    let f : m + (n - m) ≡ n = omega arith in
+    rw (e, append_assoc, ← bytes_joined, f) refl
+
+pub bytes_nothing : (b : ℕ → ℕ) (before : List ℕ) (addr n : ℕ) → n ≡ 0 → before ++ bytes_from b addr n ≡ before
+unfolding bytes_from
+bytes_nothing b before addr n none = rw none (append-nil before)
 
 abbrev pub zeros : List ℕ
 zeros = 0 ∷ 0 ∷ 0 ∷ 0 ∷ 0 ∷ 0 ∷ 0 ∷ 0 ∷ []

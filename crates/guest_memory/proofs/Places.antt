@@ -9,7 +9,7 @@ use Rattle.flat_model.specs.Image.{Segment, AreApart, end_of, holds}
 use Rattle.flat_model.specs.Permission.{Span, Permission, Readable, grants, covers, span_of, may, may_byte}
 use Rattle.guest_memory.specs.declared.regions.Access.{Access}
 use Rattle.guest_memory.specs.declared.regions.Access.TheVariants.{Read}
-use Rattle.guest_memory.specs.Access.{loaded, number_of, bytes_from}
+use Rattle.flat_model.specs.Access.{loaded, number_of, bytes_from}
 use Rattle.guest_memory.specs.Memory.{IsLaidOut, IsPlace, IsLoad, serves, permission_of}
 use Rattle.guest_memory.proofs.Numbers.{bytes_same, bytes_in, bytes_at, bytes_length, number_same}
 use Rattle.flat_model.specs.World.{opening_bytes}
@@ -232,3 +232,29 @@ run_more access regions i addr run n s laid place is ends long =
 
 pub some_run : (access : Access) (regions : List Segment) (i addr run : ℕ) (s : Segment) → IsPlace access addr 1 regions i → s ≡ get_or regions i s → addr + run ≡ end_of s → 0 < run
 some_run access regions i addr run s place is ends = let f = held_there access regions i addr 1 s place is in omega (arith, f.0, f.1, ends)
+
+-- the bytes of a region from an address on, as a slice of them
+pub bytes_held : (s : Segment) (bs : List ℕ) (base addr n : ℕ) → bs ≡ s.bytes → base ≡ s.base → holds addr n s ≡ true → bytes_from (λ at. slice_index s.bytes (at - s.base)) addr n ≡ take n (drop (addr - base) bs)
+bytes_held s bs base addr n same begins h =
+    let f = held addr n s h in
+    bytes_in s.bytes s.base addr n f.0 f.1 ∙ ap (λ b. take n (drop (addr - b) s.bytes)) (sym begins) ∙ ap (λ l. take n (drop (addr - base) l)) (sym same)
+
+-- the region that has the first byte has all up to its end
+pub run_held : (access : Access) (regions : List Segment) (i addr run n : ℕ) (s : Segment) → IsPlace access addr 1 regions i → s ≡ get_or regions i s → addr + run ≡ end_of s → n ≤ run → holds addr n s ≡ true
+run_held access regions i addr run n s place is ends short =
+    let f = held_there access regions i addr 1 s place is in
+    grind (arith, nat_tests)
+
+-- what is left to permit behind a part of a run
+pub run_part : (access : Access) (regions : List Segment) (i addr run m n : ℕ) (s : Segment) → IsLaidOut regions → IsPlace access addr 1 regions i → s ≡ get_or regions i s → addr + run ≡ end_of s → m ≤ run → m ≤ n → may (map span_of regions) (permission_of access) addr n ≡ may (map span_of regions) (permission_of access) (addr + m) (n - m)
+run_part access regions i addr run m n s laid place is ends short part =
+    let e : m + (n - m) ≡ n = omega arith in
+    rw e at (may_run (map span_of regions) (permission_of access) addr m (n - m) (λ j below. run_permitted access regions i addr run j s laid place is ends (omega arith)))
+
+-- the bytes of a region are those of the memory
+pub bytes_there : (access : Access) (regions : List Segment) (i addr n : ℕ) (s : Segment) → IsLaidOut regions → i < length regions → s ≡ get_or regions i s → holds addr n s ≡ true → bytes_from (λ at. slice_index s.bytes (at - s.base)) addr n ≡ bytes_from (opening_bytes regions) addr n
+bytes_there access regions i addr n s laid below is h =
+    let e : get_or regions i nothing ≡ s = any_default regions i nothing s below ∙ sym is in
+    bytes_same (λ at. slice_index s.bytes (at - s.base)) (opening_bytes regions) addr n (λ k less.
+    let here : holds (addr + k) 1 (get_or regions i nothing) ≡ true = ap (λ (t : Segment). holds (addr + k) 1 t) e ∙ holds_one addr n k s h less in
+    rw e at (sym (byte_of_region regions i (addr + k) laid.apart below here)))

@@ -6,7 +6,7 @@ use Rattle.std.proofs.Math.ListN.{get_or-eq_default}
 use Rattle.flat_model.specs.Image.{Segment}
 use Rattle.flat_model.specs.Permission.{Writable, span_of, may}
 use Rattle.flat_model.specs.World.{opening_bytes}
-use Rattle.guest_memory.specs.Access.{left_by, ended, with_reservation, stored, is_reserved}
+use Rattle.flat_model.specs.Access.{left_by, ended, with_reservation, stored, is_reserved}
 use Rattle.guest_memory.specs.Memory.{Kept, IsWritten, IsStore, IsNoStore, IsReserved, IsConditional, IsLaidOut}
 use Rattle.guest_memory.proofs.Places.{lt_or_le}
 use Rattle.guest_memory.proofs.Stores.{laid_along}

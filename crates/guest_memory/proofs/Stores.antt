@@ -9,7 +9,7 @@ use Rattle.std.proofs.Math.Seq.{get_or-append_right}
 use Rattle.flat_model.specs.Image.{Segment, holds}
 use Rattle.flat_model.specs.Permission.{Span, Writable, span_of, may, may_byte}
 use Rattle.flat_model.specs.World.{opening_bytes}
-use Rattle.guest_memory.specs.Access.{stored, is_within, bytes_of_number}
+use Rattle.flat_model.specs.Access.{stored, is_within, bytes_of_number}
 use Rattle.guest_memory.specs.Memory.{IsLaidOut, IsWritten, IsPlace, serves}
 use Rattle.guest_memory.specs.declared.regions.Access.TheVariants.{Write}
 use Rattle.guest_memory.proofs.Places.{may_all, may_at, may_each, may_none, past_end, nothing, any_default, byte_of_region, held, lt_or_le}

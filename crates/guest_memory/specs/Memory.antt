@@ -5,7 +5,7 @@ use Rattle.flat_model.specs.Permission.{Span, Permission, Readable, Writable, gr
 use Rattle.flat_model.specs.World.{opening_bytes}
 use Rattle.guest_memory.specs.declared.regions.Access.{Access}
 use Rattle.guest_memory.specs.declared.regions.Access.TheVariants.{Read, Write}
-use Rattle.guest_memory.specs.Access.{loaded, stored, ended, with_reservation, is_reserved}
+use Rattle.flat_model.specs.Access.{loaded, stored, ended, with_reservation, is_reserved}
 
 -- the regions with their bytes, and each hart's reservation
 pub record Kept : Type 0 where

@@ -1,7 +1,7 @@
 //! Numbers in the bytes of one region, little-endian.
 
 ghost use Rattle.std.specs.Prelude.{◌≡◌, ◌+◌, ◌-◌, ◌^◌, ◌≤◌, ◌++◌, length, take, drop};
-ghost use Rattle.guest_memory.specs.Access.{number_of, bytes_of_number};
+ghost use Rattle.flat_model.specs.Access.{number_of, bytes_of_number};
 
 /// The number that at most eight bytes hold.
 #[inline(always)]
@@ -16,7 +16,7 @@ pub fn number(bytes: &[u8]) -> u64
 
 /// The bytes of a number.
 #[inline(always)]
-#[tactic(auto, unfolding(crate::specs::Access::bytes_of_number))]
+#[tactic(auto, unfolding(flat_model::specs::Access::bytes_of_number))]
 pub fn bytes_of_number(value: u64) -> [u8; 8]
     ensures bytes { result ≡ bytes_of_number value }
 {

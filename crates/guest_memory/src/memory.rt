@@ -1,11 +1,12 @@
 //! The memory and its calls.
 
-ghost use Rattle.std.specs.Prelude.{◌≡◌, ◌+◌, ◌-◌, ◌%◌, ◌^◌, ◌<◌, ◌≤◌, Some, false, MatchResult, IfOk};
+ghost use Rattle.std.specs.Prelude.{◌≡◌, ◌+◌, ◌-◌, ◌%◌, ◌^◌, ◌<◌, ◌≤◌, ◌++◌, Some, true, false, MatchResult, IfOk, vec_len, vec_capacity};
+ghost use Rattle.flat_model.specs.Access.{bytes_from};
 ghost use Rattle.flat_model.specs.Permission.{Readable, may};
 ghost use Rattle.guest_memory.specs.Memory.{Kept, IsOpening, IsLoad, IsStore, IsNoStore, IsReserved, IsConditional, spans_in, bytes_of, harts_of};
 
 use crate::opening::{no_reservations, opening_regions};
-use crate::regions::{Access, load, permits, size, store, store_if};
+use crate::regions::{Access, append, load, permits, size, store, store_if};
 use crate::reservations::{conclude, end_others, is_reserved};
 use flat_model::{Image, NoMemory, Region};
 use std::alloc::Global;
@@ -114,5 +115,16 @@ impl Memory {
         ensures permitted { result ≡ may (spans_in self.now) Readable addr n }
     {
         permits(&self.regions, Access::Read, addr, n)
+    }
+
+    /// Appends the `n` bytes from `addr` to bytes that have room for them.
+    pub fn append_to(&self, addr: u64, n: u64, out: &mut Vec<u8>)
+        requires permitted { may (spans_in self.now) Readable addr n ≡ true }
+        requires room { vec_len out.old + n ≤ vec_capacity out.old }
+        ensures bytes { out.new.items ≡ out.old.items ++ bytes_from (bytes_of self.now) addr n }
+        ensures len { vec_len out.new ≡ vec_len out.old + n }
+        ensures capacity { vec_capacity out.old ≤ vec_capacity out.new }
+    {
+        append(&self.regions, addr, n, out);
     }
 }

@@ -1,11 +1,11 @@
 //! Accesses of the regions.
 
-ghost use Rattle.std.specs.Prelude.{◌≡◌, ℕ, ◌+◌, ◌-◌, ◌^◌, ◌<◌, ◌≤◌, ◌&&◌, ◌++◌, true, false, take, drop, length, map, position, slice_index, slice_set, MatchOption, MatchBool, IfSome, IfNone};
+ghost use Rattle.std.specs.Prelude.{◌≡◌, ℕ, ◌+◌, ◌-◌, ◌^◌, ◌<◌, ◌≤◌, ◌&&◌, ◌++◌, true, false, take, drop, length, map, position, slice_index, slice_set, MatchOption, MatchBool, IfSome, IfNone, vec_len, vec_capacity};
 ghost use Rattle.std.specs.List.{list_any};
 ghost use Rattle.flat_model.specs.Image.{Segment, end_of, holds};
 ghost use Rattle.flat_model.specs.Permission.{Permission, Readable, Writable, grants, span_of, may, may_byte};
 ghost use Rattle.flat_model.specs.World.{opening_bytes};
-ghost use Rattle.guest_memory.specs.Access.{loaded, stored, bytes_of_number};
+ghost use Rattle.flat_model.specs.Access.{loaded, bytes_from, bytes_of_number};
 ghost use Rattle.guest_memory.specs.Memory.{IsLaidOut, IsWritten, IsLoad, permission_of, serves, IsPlace};
 
 use crate::bytes::{bytes_of_number, number, number_at, put_number};
@@ -53,21 +53,51 @@ fn grants(region: &Region, access: Access) -> bool
     }
 }
 
-/// The place of the region that grants the access to all `n` bytes from `addr`.
+/// Whether the region grants the access to all `n` bytes from `addr`.
 #[inline(always)]
+fn serves(region: &Region, access: Access, addr: u64, n: u64) -> bool
+    ensures { result ≡ serves access addr n region.now }
+{
+    grants(region, access) && has(region, addr, n)
+}
+
+/// How far one stack begins before the next.
+const STACK_STEP: u64 = 0x2_0000;
+
+/// The place to look at first, which may be a wrong one: that of the stack which the address tells, or else of
+/// the last region that begins by the address, as in an image whose regions ascend.
+#[inline(always)]
+fn likely(regions: &[Region], addr: u64) -> usize {
+    match regions.last() {
+        Some(last) if last.base <= addr => {
+            let later = (addr - last.base) / STACK_STEP;
+            regions.len().saturating_sub(later as usize + 1)
+        }
+        _ => regions
+            .partition_point(|region| region.base <= addr)
+            .saturating_sub(1),
+    }
+}
+
+/// The first place of a region that grants the access to all `n` bytes from `addr`.
+#[inline(never)]
 fn search(regions: &[Region], access: Access, addr: u64, n: u64) -> Option<usize>
     ensures first { result ≡ position (serves access addr n) regions.now }
 {
     regions
         .iter()
-        .position(|region| grants(region, access) && has(region, addr, n))
+        .position(|region| serves(region, access, addr, n))
 }
 
-/// The same, with what is known of the region there.
+/// The place of a region that grants the access to all `n` bytes from `addr`.
 #[inline(always)]
 fn place(regions: &[Region], access: Access, addr: u64, n: u64) -> Option<usize>
     ensures place { MatchOption result (list_any (serves access addr n) regions.now ≡ false) (λ i. IsPlace access addr n regions.now i) }
 {
+    let guess = likely(regions, addr);
+    if guess < regions.len() && serves(&regions[guess], access, addr, n) {
+        return Some(guess);
+    }
     search(regions, access, addr, n)
 }
 
@@ -243,5 +273,40 @@ pub fn store_if(regions: &mut [Region], reserved: bool, addr: u64, shift: u8, va
         store(regions, addr, shift, value)
     } else {
         permits(regions, Access::Write, addr, size(shift))
+    }
+}
+
+/// Appends the region's `n` bytes from `addr`.
+fn append_run(region: &Region, addr: u64, n: u64, out: &mut Vec<u8>)
+    requires inside { holds addr n region.now ≡ true }
+    requires room { vec_len out.old + n ≤ vec_capacity out.old }
+    ensures bytes { out.new.items ≡ out.old.items ++ bytes_from (λ at. slice_index region.now.bytes (at - region.now.base)) addr n }
+    ensures len { vec_len out.new ≡ vec_len out.old + n }
+    ensures capacity { vec_capacity out.old ≤ vec_capacity out.new }
+{
+    let from = (addr - region.base) as usize;
+    let _appended = out.extend_from_slice(&region.bytes[from..from + n as usize]);
+}
+
+/// Appends the `n` bytes from `addr`, region by region.
+pub fn append(regions: &[Region], addr: u64, n: u64, out: &mut Vec<u8>)
+    requires laid_out { IsLaidOut regions.now }
+    requires permitted { may (map span_of regions.now) Readable addr n ≡ true }
+    requires room { vec_len out.old + n ≤ vec_capacity out.old }
+    ensures bytes { out.new.items ≡ out.old.items ++ bytes_from (opening_bytes regions.now) addr n }
+    ensures len { vec_len out.new ≡ vec_len out.old + n }
+    ensures capacity { vec_capacity out.old ≤ vec_capacity out.new }
+{
+    let mut at = addr;
+    let mut left = n;
+    while left > 0 {
+        let Some(place) = place(regions, Access::Read, at, 1) else {
+            return;
+        };
+        let region = &regions[place];
+        let count = left.min(run(region, at));
+        append_run(region, at, count, out);
+        at += count;
+        left -= count;
     }
 }

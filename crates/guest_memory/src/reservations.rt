@@ -1,7 +1,7 @@
 //! The reservations of the harts.
 
 ghost use Rattle.std.specs.Prelude.{◌≡◌, ℕ, ◌+◌, ◌<◌, ◌≤◌, ◌^◌, length, slice_index_or, None, ◌&&◌, nat_le, if◌then◌else◌};
-ghost use Rattle.guest_memory.specs.Access.{meets, left_by, ended, is_reserved, with_reservation};
+ghost use Rattle.flat_model.specs.Access.{meets, left_by, ended, is_reserved, with_reservation};
 
 /// Whether the 8 bytes reserved at `a` share one with the `n` from `addr`.
 fn meets(addr: u64, n: u64, a: u64) -> bool
@@ -46,7 +46,7 @@ fn left(own: bool, addr: u64, n: u64, reservation: Option<u64>) -> Option<u64>
 }
 
 /// What a store of another hart leaves of a reservation.
-#[tactic(auto, unfolding(crate::specs::Access::left_by))]
+#[tactic(auto, unfolding(flat_model::specs::Access::left_by))]
 fn left_by(addr: u64, n: u64, reservation: Option<u64>) -> Option<u64>
     ensures { result ≡ left_by addr n reservation }
 {
@@ -57,7 +57,7 @@ fn left_by(addr: u64, n: u64, reservation: Option<u64>) -> Option<u64>
 }
 
 /// Whether the reservation holds all `n` bytes from `addr`.
-#[tactic(auto, unfolding(crate::specs::Access::is_reserved))]
+#[tactic(auto, unfolding(flat_model::specs::Access::is_reserved))]
 pub fn is_reserved(addr: u64, n: u64, reservation: Option<u64>) -> bool
     requires { n ≤ 8 }
     ensures { result ≡ is_reserved addr n reservation }

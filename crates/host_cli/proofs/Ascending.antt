@@ -6,7 +6,7 @@ use Rattle.std.proofs.lemmas.List.{append-nil, take_more}
 use Rattle.std.proofs.lemmas.List.Elements.{All-head, All-tail}
 use Rattle.flat_model.specs.Image.{Segment, word_of}
 use Rattle.rv_text.specs.Line.{line_of}
-use Rattle.host_cli.specs.Listings.{lines, lines_at, listing_below, begins, round_up, word_address}
+use Rattle.host_cli.specs.Listings.{lines, text_at, listing_below, begins, round_up, word_address}
 
 -- a segment's next line
 pub lines_next : (s : Segment) (n : ℕ) → lines s (n + 1) ≡ lines s n ++ line_of (word_address s n) (word_of (word_address s n) s)
@@ -33,46 +33,46 @@ pub lines_none : (s : Segment) → lines s 0 ≡ []
 unfolding lines
 lines_none s = refl
 
-pub listing_none : (regions : List Segment) → listing_below regions 0 ≡ []
+pub listing_none : (text : Segment → List ℕ) (regions : List Segment) → listing_below text regions 0 ≡ []
 unfolding listing_below
-listing_none regions = refl
+listing_none text regions = refl
 
 -- the lines at the next address
-pub listing_next : (regions : List Segment) (address : ℕ) → listing_below regions (address + 1) ≡ listing_below regions address ++ lines_at regions address
+pub listing_next : (text : Segment → List ℕ) (regions : List Segment) (address : ℕ) → listing_below text regions (address + 1) ≡ listing_below text regions address ++ text_at text regions address
 unfolding listing_below
-listing_next regions address = rw add-one refl
+listing_next text regions address = rw add-one refl
 
-none_step : (regions : List Segment) (address : ℕ) → find (begins address) regions ≡ None → listing_below regions (suc address) ≡ listing_below regions address
+none_step : (text : Segment → List ℕ) (regions : List Segment) (address : ℕ) → find (begins address) regions ≡ None → listing_below text regions (suc address) ≡ listing_below text regions address
 unfolding listing_below
-none_step regions address none = rw none (append-nil (listing_below regions address))
+none_step text regions address none = rw none (append-nil (listing_below text regions address))
 
 -- addresses at which nothing begins add no line
-pub listing_same : (regions : List Segment) (from more : ℕ)
+pub listing_same : (text : Segment → List ℕ) (regions : List Segment) (from more : ℕ)
     → ((a : ℕ) → from ≤ a → a < from + more → find (begins a) regions ≡ None)
-    → listing_below regions (from + more) ≡ listing_below regions from
-listing_same regions from zero none = ap (listing_below regions) (omega arith)
-listing_same regions from (suc more) none =
+    → listing_below text regions (from + more) ≡ listing_below text regions from
+listing_same text regions from zero none = ap (listing_below text regions) (omega arith)
+listing_same text regions from (suc more) none =
     let e : from + suc more ≡ suc (from + more) = omega arith in
     let here : find (begins (from + more)) regions ≡ None = none (from + more) (omega arith) (omega arith) in
-    ap (listing_below regions) e
-    ∙ (none_step regions (from + more) here ∙ listing_same regions from more (λ a low high. none a low (omega arith)))
+    ap (listing_below text regions) e
+    ∙ (none_step text regions (from + more) here ∙ listing_same text regions from more (λ a low high. none a low (omega arith)))
 
-pub listing_to : (regions : List Segment) (from to : ℕ) → from ≤ to
+pub listing_to : (text : Segment → List ℕ) (regions : List Segment) (from to : ℕ) → from ≤ to
     → ((a : ℕ) → from ≤ a → a < to → find (begins a) regions ≡ None)
-    → listing_below regions to ≡ listing_below regions from
-listing_to regions from to below none =
+    → listing_below text regions to ≡ listing_below text regions from
+listing_to text regions from to below none =
     let e : from + (to - from) ≡ to = omega arith in
-    ap (listing_below regions) (sym e) ∙ listing_same regions from (to - from) (λ a low high. none a low (omega arith))
+    ap (listing_below text regions) (sym e) ∙ listing_same text regions from (to - from) (λ a low high. none a low (omega arith))
 
 -- a text with the lines of the next base
-pub text_next : (regions : List Segment) (from base : ℕ) (now new : List ℕ) → from ≤ base
+pub text_next : (text : Segment → List ℕ) (regions : List Segment) (from base : ℕ) (now new : List ℕ) → from ≤ base
     → ((a : ℕ) → from ≤ a → a < base → find (begins a) regions ≡ None)
-    → now ≡ listing_below regions from
-    → new ≡ now ++ lines_at regions base
-    → new ≡ listing_below regions (base + 1)
-text_next regions from base now new below none now_is new_is =
+    → now ≡ listing_below text regions from
+    → new ≡ now ++ text_at text regions base
+    → new ≡ listing_below text regions (base + 1)
+text_next text regions from base now new below none now_is new_is =
     new_is
-    ∙ (ap (λ xs. xs ++ lines_at regions base) (now_is ∙ sym (listing_to regions from base below none)) ∙ sym (listing_next regions base))
+    ∙ (ap (λ xs. xs ++ text_at text regions base) (now_is ∙ sym (listing_to text regions from base below none)) ∙ sym (listing_next text regions base))
 
 none_behind : (b : Bool) (x : Segment) (rest longer : Option Segment) → cond b (Some x) rest ≡ None → (rest ≡ None → longer ≡ None) → cond b (Some x) longer ≡ None
 none_behind true x rest longer none next = cc
@@ -88,7 +88,7 @@ pub none_in_more : (test : Segment → Bool) (xs : List Segment) (i : ℕ) (d : 
     → find test (take i xs) ≡ None → test (get_or xs i d) ≡ false → find test (take (i + 1) xs) ≡ None
 none_in_more test xs i d within none fails = ap (find test) (take_more xs i d within) ∙ none_more test (take i xs) (get_or xs i d) none fails
 
-found_nothing : {s : Segment} → Some s ≡ None → ⊥
+pub found_nothing : {s : Segment} → Some s ≡ None → ⊥
 found_nothing found = cc
 
 keeps_behind : (P : Segment → Type 0) (b : Bool) (x s : Segment) (rest : Option Segment) → Some s ≡ cond b (Some x) rest → P x → (Some s ≡ rest → P s) → P s

@@ -1,7 +1,7 @@
-pub mod Regions
 pub mod Running
-pub mod Putting
 pub mod Answering
 pub mod FirstBox
 pub mod Gaining
 pub mod Ascending
+pub mod Coding
+pub mod Skipping

@@ -1,16 +1,17 @@
 -- What a call of `host_one` answers and prints.
-use Rattle.std.specs.Prelude.{◌≡◌, ◌⊎◌, ℕ, List, [], ◌∷◌, Option, Some, None}
+use Rattle.std.specs.Prelude.{◌≡◌, ◌⊎◌, ℕ, ℤ, List, [], ◌∷◌, Option, Some, None}
 use Rattle.flat_model.specs.Image.{Program}
 use Rattle.flat_model.specs.World.{HartState}
 use Rattle.flat_model.specs.Texts.{hart_line, status_of}
 use Rattle.outer_io.specs.Sinks.{Gained, StoppedAtFault}
 use Rattle.host_cli.specs.declared.refusals.Refusal.{Refusal}
 use Rattle.host_cli.specs.declared.refusals.Refusal.TheVariants.{OutOfMemory}
-use Rattle.host_cli.specs.declared.words.Verb.TheVariants.{Run, Disas}
+use Rattle.host_cli.specs.declared.words.Verb.TheVariants.{Run, Lists}
+use Rattle.host_cli.specs.declared.listings.ListingOf.{ListingOf}
 use Rattle.host_cli.specs.Words.{verb_of, file_of}
-use Rattle.host_cli.specs.Runs.{IsImageOf, AllRun, HasRun}
-use Rattle.host_cli.specs.Refusals.{Given, HasCause, RunCause, refusal_status, refusal_line}
-use Rattle.host_cli.specs.Listings.{listing}
+use Rattle.host_cli.specs.Runs.{IsImageOf, HasRun, output_of, group_of}
+use Rattle.host_cli.specs.Refusals.{Given, HasCause, refusal_status, refusal_line}
+use Rattle.host_cli.specs.Listed.{listing}
 
 -- a sink around a call: its contents, where told, and its faults, before and after
 pub record Around : Type 0 where
@@ -35,13 +36,9 @@ IsSilent sink = sink.now ≡ sink.before
 abbrev pub WasTold : Around → List ℕ → Type 0
 WasTold sink text = Says sink text ⊎ StopsAt sink text
 
-abbrev pub line_of : HartState → List ℕ
-line_of hart = hart_line 0 None hart
-
--- the hart of a run of the image
-pub record HasRunHere (image : Program) (hart : HartState) : Type 0 where
-  pub all_run : AllRun image
-  pub has_run : HasRun image hart
+-- the report's line of hart 0, whose group has ended with this code, if it has
+abbrev pub line_of : Option ℤ → HartState → List ℕ
+line_of group hart = hart_line 0 group hart
 
 -- a refusal's line was put and its status is answered, or those of want of memory
 abbrev pub PutRefusal : List ℕ → Refusal → ℕ → Around → Type 0
@@ -51,29 +48,30 @@ PutRefusal name refusal status report =
     × (status ≡ refusal_status put)
     × WasTold report (refusal_line name put)
 
--- how a hart that has run is reported: the status, and what the report gains
-pub data Reports (hart : HartState) (report : Around) : ℕ → Type 0 where
-  said : Says report (line_of hart) → Reports hart report (status_of None (hart.ending ∷ []))
-  stopped : StopsAt report (line_of hart) → Reports hart report 6
-  out_of_memory : WasTold report (refusal_line [] OutOfMemory) → Reports hart report 7
+-- how a hart that has run is reported, with its output and its group's code: the status, and what the sinks gain.
+-- The output comes first, and the line only where all of it was put
+pub data Reports (hart : HartState) (output : List ℕ) (group : Option ℤ) (out report : Around) : ℕ → Type 0 where
+  said : Says out output → Says report (line_of group hart) → Reports hart output group out report (status_of group (hart.ending ∷ []))
+  cut_short : StopsAt out output → IsSilent report → Reports hart output group out report 6
+  stopped : Says out output → StopsAt report (line_of group hart) → Reports hart output group out report 6
+  out_of_memory : IsSilent out → WasTold report (refusal_line [] OutOfMemory) → Reports hart output group out report 7
 
--- the ways in which `run` of an image ends: the status and the hart that it answers, what the report gains, and,
--- after a run, what the boxes have heard
-pub data RunAnswers (name : List ℕ) (image : Program) (report : Around) (heard : HartState → Type 0) : ℕ → Option HartState → Type 0 where
-  -- an image that doesn't run, or no memory: the refusal's status and line, and no hart
-  not_run : (refusal : Refusal) → RunCause refusal image
-      → WasTold report (refusal_line name refusal)
-      → RunAnswers name image report heard (refusal_status refusal) None
+-- the ways in which `run` of an image ends: the status and the hart that it answers, what the sinks gain, and, after a
+-- run, what the boxes have heard
+pub data RunAnswers (image : Program) (out report : Around) (heard : HartState → Type 0) : ℕ → Option HartState → Type 0 where
+  -- no memory for a run: nothing but the line, and no hart
+  not_run : IsSilent out → WasTold report (refusal_line [] OutOfMemory)
+      → RunAnswers image out report heard 7 None
   -- the hart has run, and is reported
-  ran : (hart : HartState) (status : ℕ) → HasRunHere image hart → heard hart
-      → Reports hart report status
-      → RunAnswers name image report heard status (Some hart)
+  ran : (hart : HartState) (status : ℕ) → HasRun image hart → heard hart
+      → Reports hart (output_of image hart) (group_of image hart) out report status
+      → RunAnswers image out report heard status (Some hart)
 
--- the ways in which `disas` of an image ends: the status, and what the two sinks gain
-pub data ListAnswers (image : Program) (out report : Around) : ℕ → Type 0 where
-  listed : Says out (listing image.regions) → IsSilent report → ListAnswers image out report 0
-  cut : StopsAt out (listing image.regions) → IsSilent report → ListAnswers image out report 6
-  unlisted : IsSilent out → WasTold report (refusal_line [] OutOfMemory) → ListAnswers image out report 7
+-- the ways in which a listing of an image ends: the status, and what the two sinks gain
+pub data ListAnswers (what : ListingOf) (image : Program) (out report : Around) : ℕ → Type 0 where
+  listed : Says out (listing what image) → IsSilent report → ListAnswers what image out report 0
+  cut : StopsAt out (listing what image) → IsSilent report → ListAnswers what image out report 6
+  unlisted : IsSilent out → WasTold report (refusal_line [] OutOfMemory) → ListAnswers what image out report 7
 
 -- the ways in which a call of `host_one` ends: a refusal before there is an image, a run or a listing of the
 -- image of the file that the words name
@@ -86,11 +84,10 @@ pub data Answers (given : Given) (out report : Around) (heard : Program → Hart
   runs : (image : Program) (status : ℕ) (hart : Option HartState)
       → verb_of given.words ≡ Some Run
       → IsImageOf given.told given.held image
-      → IsSilent out
-      → RunAnswers (file_of given.words) image report (heard image) status hart
+      → RunAnswers image out report (heard image) status hart
       → Answers given out report heard status hart
-  lists : (image : Program) (status : ℕ)
-      → verb_of given.words ≡ Some Disas
+  lists : (what : ListingOf) (image : Program) (status : ℕ)
+      → verb_of given.words ≡ Some (Lists what)
       → IsImageOf given.told given.held image
-      → ListAnswers image out report status
+      → ListAnswers what image out report status
       → Answers given out report heard status None

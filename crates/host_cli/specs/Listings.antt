@@ -1,4 +1,4 @@
--- The text that `disas` prints for an image.
+-- The text of a listing: what it has of each executable segment of an image, by ascending base; and the lines of `disas`.
 use Rattle.std.specs.Prelude.{ℕ, zero, suc, ◌+◌, ◌-◌, ◌*◌, ◌/◌, ◌<◌, ◌==◌, ◌&&◌, not, Bool, List, [], ◌++◌, length, Option, Some, None, find}
 use Rattle.std.specs.Option.{option_map_or}
 use Rattle.flat_model.specs.Image.{Segment, end_of, word_of}
@@ -29,18 +29,18 @@ segment_lines s = lines s (word_count s)
 abbrev pub begins : ℕ → Segment → Bool
 begins address s = s.x && (s.base == address) && not (length s.bytes == 0)
 
--- the lines of the executable segment that begins at an address
-abbrev pub lines_at : List Segment → ℕ → List ℕ
-lines_at regions address = option_map_or segment_lines (find (begins address) regions) []
+-- the text of the executable segment that begins at an address
+abbrev pub text_at : (Segment → List ℕ) → List Segment → ℕ → List ℕ
+text_at text regions address = option_map_or text (find (begins address) regions) []
 
--- for each address below this one, in ascending order, the lines of the executable segment that begins there
-unfoldable pub listing_below : List Segment → ℕ → List ℕ
-listing_below regions zero = []
-listing_below regions (suc address) = listing_below regions address ++ lines_at regions address
+-- for each address below this one, in ascending order, the text of the executable segment that begins there
+unfoldable pub listing_below : (Segment → List ℕ) → List Segment → ℕ → List ℕ
+listing_below text regions zero = []
+listing_below text regions (suc address) = listing_below text regions address ++ text_at text regions address
 
 -- the same for each address of the machine, 2^38 of them
-abbrev pub listing : List Segment → List ℕ
-listing regions = listing_below regions 0x4000000000
+abbrev pub listing_by : (Segment → List ℕ) → List Segment → List ℕ
+listing_by text regions = listing_below text regions 0x4000000000
 
 -- an address before the one that is given, if any
 abbrev pub IsBefore : ℕ → Option ℕ → Type 0

@@ -1,7 +1,6 @@
 -- Why a call is refused: the causes, the statuses and the printed lines; `docs/top-call.md` lists them.
 use Rattle.std.specs.Prelude.{◌≡◌, ◌⊎◌, ℕ, Bool, List, ◌++◌, codes, Option, None, IsTrue, MatchBool}
 use Rattle.std.specs.Fmt.{decimal}
-use Rattle.flat_model.specs.Image.{Program}
 use Rattle.flat_model.specs.Texts.{hex}
 use Rattle.outer_io.specs.Counts.{Rose}
 use Rattle.outer_io.specs.Files.{IsLonger}
@@ -9,9 +8,9 @@ use Rattle.elf_image.specs.declared.refusals.ImageRefusal.{ImageRefusal}
 use Rattle.elf_image.specs.declared.refusals.ImageRefusal.TheVariants.{Short, NotElf, NotRv64, NotStatic, Compressed, BadHeaders, HeadersPastEnd, Interpreted, TooMany, SegmentPastEnd, SizesCross, AddressRange, WritableCode, Overlap, TooLarge, EntryNotCode}
 use Rattle.elf_image.specs.Loads.{Refuses}
 use Rattle.host_cli.specs.declared.refusals.Refusal.{Refusal}
-use Rattle.host_cli.specs.declared.refusals.Refusal.TheVariants.{Usage, CannotRead, TooLong, Image, NotBuilt, OutOfMemory}
+use Rattle.host_cli.specs.declared.refusals.Refusal.TheVariants.{Usage, CannotRead, TooLong, Image, OutOfMemory}
 use Rattle.host_cli.specs.Words.{verb_of}
-use Rattle.host_cli.specs.Runs.{WasRead, SomeDoNotRun}
+use Rattle.host_cli.specs.Runs.{WasRead}
 
 -- what a call is given, and what the file that it names holds, where told; the reads' faults before and after
 pub record Given : Type 0 where
@@ -33,7 +32,6 @@ FileCause Usage told held before now = ⊥
 FileCause CannotRead told held before now = Rose before now ⊎ (IsTrue told × (held ≡ None))
 FileCause TooLong told held before now = MatchBool told (IsLonger held 67108864) (Rose before now)
 FileCause (Image refusal) told held before now = (bytes : List ℕ) × WasRead told held bytes × Refuses bytes refusal
-FileCause NotBuilt told held before now = ⊥
 FileCause OutOfMemory told held before now = Unit {0}
 
 -- why a call has no image: words that ask for nothing, or the file that they name
@@ -41,18 +39,11 @@ abbrev pub HasCause : Refusal → Given → Type 0
 HasCause Usage given = verb_of given.words ≡ None
 HasCause refusal given = FileCause refusal given.told given.held given.faults_before given.faults_now
 
--- why an image does no run
-abbrev pub RunCause : Refusal → Program → Type 0
-RunCause NotBuilt image = SomeDoNotRun image
-RunCause OutOfMemory image = Unit {0}
-RunCause _ image = ⊥
-
 abbrev pub refusal_status : Refusal → ℕ
 refusal_status Usage = 2
 refusal_status CannotRead = 3
 refusal_status TooLong = 3
 refusal_status (Image refusal) = 4
-refusal_status NotBuilt = 4
 refusal_status OutOfMemory = 7
 
 abbrev pub index_text : List ℕ → ℕ → List ℕ → List ℕ
@@ -83,7 +74,6 @@ refusal_text name Usage = codes "not built"
 refusal_text name CannotRead = codes "cannot read " ++ name
 refusal_text name TooLong = name ++ codes " is longer than 67108864 bytes"
 refusal_text name (Image refusal) = codes "image: " ++ image_text refusal
-refusal_text name NotBuilt = codes "image: not built"
 refusal_text name OutOfMemory = codes "out of memory"
 
 abbrev pub refusal_line : List ℕ → Refusal → List ℕ

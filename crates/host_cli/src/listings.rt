@@ -1,13 +1,25 @@
-//! The text that `disas` prints for an image.
+//! The texts that list an image's code.
 
-ghost use Rattle.std.specs.Prelude.{◌≡◌, ◌≤◌, ◌<◌, ◌+◌, ◌++◌, ℕ, None, false, All, IfOk, IfSome, OnOk, find};
+ghost use Rattle.std.specs.Prelude.{◌≡◌, ◌≤◌, ◌<◌, ◌++◌, ℕ, None, false, All, IfOk, IfSome, OnOk, find};
 ghost use Rattle.std.specs.Option.{option_copied};
 ghost use Rattle.flat_model.specs.Image.{end_of};
-ghost use Rattle.host_cli.specs.Listings.{begins, lines_at, listing, segment_lines, IsBefore};
+ghost use Rattle.host_cli.specs.BlockLists.{IsCode};
+ghost use Rattle.host_cli.specs.Listings.{begins, text_at, segment_lines, IsBefore};
+ghost use Rattle.host_cli.specs.Listed.{listed, listing};
 
+use crate::block_lists::put_blocks;
 use flat_model::{Image, NoMemory, Region};
 use rv_text::line;
 use std::alloc::Global;
+
+/// What a listing has a line for.
+#[derive(Clone, Copy, Debug, PartialEq, Eq)]
+pub enum ListingOf {
+    /// Each word, with its instruction.
+    Instructions,
+    /// Each block, with its length.
+    Blocks,
+}
 
 /// Whether a region is code that begins at this address.
 fn begins(address: u64, region: &Region) -> bool
@@ -48,7 +60,7 @@ fn next_base(regions: &[Region], from: u64) -> Option<u64>
 }
 
 /// Puts the lines of the words of a region at the end of `text`.
-fn put_region(text: &mut Vec<u8>, region: &Region) -> Result<(), NoMemory>
+fn put_words(text: &mut Vec<u8>, region: &Region) -> Result<(), NoMemory>
     requires low { end_of region.now ≤ 0x3FFFC00000 }
     ensures text { OnOk result (text.new.items ≡ text.old.items ++ segment_lines region.now) }
 {
@@ -61,6 +73,24 @@ fn put_region(text: &mut Vec<u8>, region: &Region) -> Result<(), NoMemory>
     Ok(())
 }
 
+/// Puts what is listed of a region at the end of `text`.
+fn put_region(
+    alloc: Global,
+    text: &mut Vec<u8>,
+    image: &Image,
+    region: &Region,
+    what: ListingOf,
+) -> Result<(), NoMemory>
+    requires low { end_of region.now ≤ 0x3FFFC00000 }
+    requires code { IsCode image.now region.now }
+    ensures text { OnOk result (text.new.items ≡ text.old.items ++ listed what image.now region.now) }
+{
+    match what {
+        ListingOf::Instructions => put_words(text, region),
+        ListingOf::Blocks => put_blocks(alloc, text, image, region),
+    }
+}
+
 /// The region with code that begins at this address.
 fn region_at(regions: &[Region], address: u64) -> Option<&Region>
     ensures found { option_copied result ≡ find (begins address) regions.now }
@@ -68,35 +98,31 @@ fn region_at(regions: &[Region], address: u64) -> Option<&Region>
     regions.iter().find(|region| begins(address, region))
 }
 
-/// Puts the lines of the region with code that begins at this address, where there is one.
-fn put_at(text: &mut Vec<u8>, regions: &[Region], address: u64) -> Result<(), NoMemory>
-    requires low { All (λ s. end_of s ≤ 0x3FFFC00000) regions.now }
-    ensures text { OnOk result (text.new.items ≡ text.old.items ++ lines_at regions.now address) }
+/// Puts what is listed of the region with code that begins at this address, where there is one.
+fn put_at(
+    alloc: Global,
+    text: &mut Vec<u8>,
+    image: &Image,
+    address: u64,
+    what: ListingOf,
+) -> Result<(), NoMemory>
+    ensures text { OnOk result (text.new.items ≡ text.old.items ++ text_at (listed what image.now) image.now.regions address) }
 {
-    match region_at(regions, address) {
-        Some(region) => put_region(text, region),
+    match region_at(&image.regions, address) {
+        Some(region) => put_region(alloc, text, image, region, what),
         None => Ok(()),
     }
 }
 
-/// The lines of the regions with code, by ascending base.
-fn regions_text(alloc: Global, regions: &[Region]) -> Result<Vec<u8>, NoMemory>
-    requires low { All (λ s. end_of s ≤ 0x3FFFC00000) regions.now }
-    ensures text { IfOk result (λ text. text.items ≡ listing regions.now) }
+/// The listing of the executable regions, by ascending base.
+pub fn listing(alloc: Global, image: &Image, what: ListingOf) -> Result<Vec<u8>, NoMemory>
+    ensures text { IfOk result (λ text. text.items ≡ listing what image.now) }
 {
     let mut text = Vec::new(alloc);
     let mut from = 0;
-    while let Some(base) = next_base(regions, from) {
-        put_at(&mut text, regions, base)?;
+    while let Some(base) = next_base(&image.regions, from) {
+        put_at(alloc, &mut text, image, base, what)?;
         from = base + 1;
     }
     Ok(text)
-}
-
-/// The line of each word of the executable regions, by ascending address.
-pub fn listing(alloc: Global, image: &Image) -> Result<Vec<u8>, NoMemory>
-    ensures text { IfOk result (λ text. text.items ≡ listing image.now.regions) }
-{
-    let regions = &image.regions;
-    regions_text(alloc, regions)
 }

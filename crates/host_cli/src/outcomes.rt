@@ -4,18 +4,17 @@ ghost use Rattle.std.specs.Prelude.{◌≡◌, ◌⊎◌, ℕ, [], ◌∷◌, ma
 ghost use Rattle.host_cli.specs.Boxes.{FirstHeard, events_of};
 ghost use Rattle.outer_io.specs.Counts.{Rose, IsCount};
 ghost use Rattle.host_cli.specs.Words.{verb_of, file_of};
-ghost use Rattle.host_cli.specs.Runs.{IsImageOf, AllRun, HasRun};
-ghost use Rattle.host_cli.specs.Refusals.{HasCause, FileCause, BytesCause, RunCause, refusal_line, refusal_status};
-ghost use Rattle.host_cli.specs.Answers.{Says, StopsAt, Answers, RunAnswers, ListAnswers, line_of, PutRefusal, Reports};
+ghost use Rattle.host_cli.specs.Runs.{IsImageOf, HasRun, output_of, group_of};
+ghost use Rattle.host_cli.specs.Refusals.{HasCause, FileCause, BytesCause, refusal_line, refusal_status};
+ghost use Rattle.host_cli.specs.Answers.{WasTold, Says, StopsAt, Answers, RunAnswers, ListAnswers, line_of, PutRefusal, Reports};
 ghost use Rattle.elf_image.specs.Loads.{Loads};
-ghost use Rattle.flat_model.specs.Texts.{status_of};
+ghost use Rattle.flat_model.specs.Texts.{status_of, is_failed_group};
 
-use crate::built::all_run;
 use crate::hart_lines::hart_line;
-use crate::listings::listing;
+use crate::listings::{ListingOf, listing};
 use crate::pieces::put_pieces;
 use crate::refusals::{Refusal, refusal_line};
-use crate::single_hart::run_watched;
+use crate::single_hart::{Ran, run_watched};
 use crate::words::{Verb, asked_verb, file_name};
 use elf_image::load;
 use flat_model::{Ending, Image, Refused};
@@ -44,19 +43,17 @@ fn refuse<E: Sink>(alloc: Global, report: &mut E, name: &str, refusal: &Refusal)
             let _ = report.put(line.as_slice());
             refusal.status()
         }
-        Err(_) => {
-            let _ = report.put(b"tcg_host: out of memory\n");
-            Refusal::OutOfMemory.status()
-        }
+        Err(_) => refuse_for_memory(report),
     }
 }
 
-/// Puts the line of want of memory, and answers its status.
-fn refuse_for_memory<E: Sink>(alloc: Global, report: &mut E, name: &str) -> u8
-    ensures refused { PutRefusal name.now Refusal.OutOfMemory result (record { before = E.contents report.old; now = E.contents report.new; faults_before = E.faults report.old; faults_now = E.faults report.new }) }
+/// Puts the line of want of memory, which takes none, and answers its status.
+fn refuse_for_memory<E: Sink>(report: &mut E) -> u8
+    ensures told { WasTold (record { before = E.contents report.old; now = E.contents report.new; faults_before = E.faults report.old; faults_now = E.faults report.new }) (refusal_line [] Refusal.OutOfMemory) }
     ensures status { result ≡ 7 }
 {
-    refuse(alloc, report, name, &Refusal::OutOfMemory)
+    let _ = report.put(Refusal::OutOfMemory.bare_line());
+    Refusal::OutOfMemory.status()
 }
 
 /// Reads the file of this name and loads it.
@@ -89,43 +86,60 @@ fn image_of_bytes(alloc: Global, bytes: &[u8]) -> Result<Image, Refusal>
     }
 }
 
-/// The status of a hart that has ended.
-fn hart_status(hart: &Hart) -> u8
-    ensures status { result ≡ status_of None (hart.now.ending ∷ []) }
+/// The status of a hart that has ended, and whose group has ended with this code, if it has.
+fn hart_status(hart: &Hart, group: Option<i32>) -> u8
+    ensures status { result ≡ status_of group (hart.now.ending ∷ []) }
 {
     match hart.ending {
         Some(Ending::Fault { .. }) => 8,
         Some(Ending::Limit) => 9,
-        Some(Ending::Exited(code)) => u8::from(code != 0),
-        Some(Ending::Group) | None => 0,
+        Some(Ending::Exited(code)) => u8::from(code != 0 || failed(group)),
+        Some(Ending::Group) | None => u8::from(failed(group)),
     }
 }
 
-/// Puts the line of a hart that has run, and answers the status.
-fn report_hart<E: Sink>(alloc: Global, report: &mut E, hart: &Hart) -> u8
-    ensures reported { Reports hart.now (record { before = E.contents report.old; now = E.contents report.new; faults_before = E.faults report.old; faults_now = E.faults report.new }) result }
+/// Whether the group has ended with a code other than 0.
+fn failed(group: Option<i32>) -> bool
+    ensures failed { result ≡ is_failed_group group }
 {
-    let Ok(line) = hart_line(alloc, 0, None, hart) else {
-        let _ = report.put(b"tcg_host: out of memory\n");
-        return 7;
+    match group {
+        Some(code) => code != 0,
+        None => false,
+    }
+}
+
+/// Puts the output of a hart that has run and then its line, and answers the status.
+fn report_run<O: Sink, E: Sink>(alloc: Global, out: &mut O, report: &mut E, run: &Ran) -> u8
+    ensures reported { Reports run.now.hart run.now.services.output.items run.now.services.group
+        (record { before = O.contents out.old; now = O.contents out.new; faults_before = O.faults out.old; faults_now = O.faults out.new })
+        (record { before = E.contents report.old; now = E.contents report.new; faults_before = E.faults report.old; faults_now = E.faults report.new })
+        result }
+{
+    let group = run.services.group;
+    let Ok(line) = hart_line(alloc, 0, group, &run.hart) else {
+        return refuse_for_memory(report);
     };
-    match report.put(line.as_slice()) {
-        Ok(()) => hart_status(hart),
+    match put_pieces(out, run.services.output.as_slice()) {
+        Ok(()) => match report.put(line.as_slice()) {
+            Ok(()) => hart_status(&run.hart, group),
+            Err(_) => 6,
+        },
         Err(_) => 6,
     }
 }
 
-/// Runs the image on one hart, and reports how the hart ended.
-fn run_image<W: Watcher, E: Sink>(
+/// Runs the image, and reports the run.
+fn run_image<W: Watcher, O: Sink, E: Sink>(
     alloc: Global,
+    out: &mut O,
     report: &mut E,
-    name: &str,
     image: &Image,
     watchers: Vec<W>,
 ) -> OneEnded<W>
     requires some { 0 < vec_len watchers }
     requires blank { All (λ w. W.kind_of w ≡ None) watchers.items }
-    ensures answers { RunAnswers name.now image.now
+    ensures answers { RunAnswers image.now
+        (record { before = O.contents out.old; now = O.contents out.new; faults_before = O.faults out.old; faults_now = O.faults out.new })
         (record { before = E.contents report.old; now = E.contents report.new; faults_before = E.faults report.old; faults_now = E.faults report.new })
         (λ hart. FirstHeard W.kind_of W.stands watchers.items result.watchers.items (events_of image.now hart))
         result.status result.hart }
@@ -133,40 +147,36 @@ fn run_image<W: Watcher, E: Sink>(
     ensures untouched { result.status ≢ 7 → result.hart ≡ None → result.watchers.items ≡ watchers.items }
 {
     let mut watchers = watchers;
-    if !all_run(image) {
-        let status = refuse(alloc, report, name, &Refusal::NotBuilt);
+    let Ok(ran) = run_watched(alloc, image, &mut watchers) else {
         return OneEnded {
-            status,
-            hart: None,
-            watchers,
-        };
-    }
-    let Ok(hart) = run_watched(alloc, image, &mut watchers) else {
-        let status = refuse_for_memory(alloc, report, name);
-        return OneEnded {
-            status,
+            status: refuse_for_memory(report),
             hart: None,
             watchers,
         };
     };
-    let status = report_hart(alloc, report, &hart);
+    let status = report_run(alloc, out, report, &ran);
     OneEnded {
         status,
-        hart: Some(hart),
+        hart: Some(ran.hart),
         watchers,
     }
 }
 
-/// Lists the instructions of the image.
-fn list_image<O: Sink, E: Sink>(alloc: Global, out: &mut O, report: &mut E, image: &Image) -> u8
-    ensures answers { ListAnswers image.now
+/// Lists the code of the image.
+fn list_image<O: Sink, E: Sink>(
+    alloc: Global,
+    out: &mut O,
+    report: &mut E,
+    image: &Image,
+    what: ListingOf,
+) -> u8
+    ensures answers { ListAnswers what image.now
         (record { before = O.contents out.old; now = O.contents out.new; faults_before = O.faults out.old; faults_now = O.faults out.new })
         (record { before = E.contents report.old; now = E.contents report.new; faults_before = E.faults report.old; faults_now = E.faults report.new })
         result }
 {
-    let Ok(text) = listing(alloc, image) else {
-        let _ = report.put(b"tcg_host: out of memory\n");
-        return 7;
+    let Ok(text) = listing(alloc, image, what) else {
+        return refuse_for_memory(report);
     };
     match put_pieces(out, text.as_slice()) {
         Ok(()) => 0,
@@ -174,9 +184,9 @@ fn list_image<O: Sink, E: Sink>(alloc: Global, out: &mut O, report: &mut E, imag
     }
 }
 
-/// Runs the file that the words name on one hart, or lists its instructions.
+/// Runs the file that the words name on one hart, or lists its instructions or its blocks.
 ///
-/// `out` takes what a command prints; `report` takes the line of a hart that has run, or that of a refusal. The first
+/// `out` takes the guest's output, or what is listed; `report` takes the line of a hart that has run, or that of a refusal. The first
 /// box hears every event of the run, as one of the kind Exec without a quota; all boxes are handed back.
 pub fn host_one<W: Watcher, F: Files, O: Sink, E: Sink>(
     alloc: Global,
@@ -227,9 +237,9 @@ pub fn host_one<W: Watcher, F: Files, O: Sink, E: Sink>(
         }
     };
     match verb {
-        Verb::Run => run_image(alloc, report, name, &image, watchers),
-        Verb::Disas => {
-            let status = list_image(alloc, out, report, &image);
+        Verb::Run => run_image(alloc, out, report, &image, watchers),
+        Verb::Lists { what } => {
+            let status = list_image(alloc, out, report, &image, what);
             OneEnded {
                 status,
                 hart: None,

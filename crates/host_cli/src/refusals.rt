@@ -22,8 +22,6 @@ pub enum Refusal {
     TooLong,
     /// The file breaks a rule of the loader.
     Image(ImageRefusal),
-    /// The image has an instruction that does not run yet.
-    NotBuilt,
     OutOfMemory,
 }
 
@@ -35,7 +33,7 @@ impl Refusal {
         match self {
             Refusal::Usage => 2,
             Refusal::CannotRead | Refusal::TooLong => 3,
-            Refusal::Image(_) | Refusal::NotBuilt => 4,
+            Refusal::Image(_) => 4,
             Refusal::OutOfMemory => 7,
         }
     }
@@ -176,7 +174,6 @@ fn put_text(alloc: Global, out: &mut Vec<u8>, name: &str, refusal: &Refusal) -> 
             put(out, b"image: ")?;
             put_image_text(alloc, out, refusal)
         }
-        Refusal::NotBuilt => put(out, b"image: not built"),
         Refusal::OutOfMemory => put(out, b"out of memory"),
     }
 }

@@ -3,13 +3,15 @@
 ghost use Rattle.std.specs.Prelude.{◌≡◌, map, string_bytes, length, None, IsSome};
 ghost use Rattle.host_cli.specs.Words.{is_plain, verb_named, verb_of, file_of};
 
+use crate::listings::ListingOf;
+
 /// What a call is asked to do.
 #[derive(Clone, Copy, Debug, PartialEq, Eq)]
 pub enum Verb {
     /// `run FILE`: run the file on one hart.
     Run,
-    /// `disas FILE`: list the instructions of the file.
-    Disas,
+    /// `disas FILE` or `blocks FILE`: list the code of the file.
+    Lists { what: ListingOf },
 }
 
 /// Whether a word is neither empty nor an option.
@@ -28,7 +30,12 @@ fn verb_named(word: &str) -> Option<Verb>
 {
     match word {
         "run" => Some(Verb::Run),
-        "disas" => Some(Verb::Disas),
+        "disas" => Some(Verb::Lists {
+            what: ListingOf::Instructions,
+        }),
+        "blocks" => Some(Verb::Lists {
+            what: ListingOf::Blocks,
+        }),
         _ => None,
     }
 }

@@ -1,1 +1,3 @@
+pub mod Amos
+mod Images
 pub mod Stepping

@@ -3,9 +3,15 @@
 
 pub use harts::Hart;
 pub use raw_logs::RawLog;
-pub use steps::one_step;
+pub use services::Services;
+pub use steps::{Private, private_step, shared_step};
 
+mod accesses;
+mod atomics;
 mod effects;
 mod harts;
 mod raw_logs;
+mod services;
 mod steps;
+#[cfg(test)]
+mod tests;

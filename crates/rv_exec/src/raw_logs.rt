@@ -1,8 +1,9 @@
 //! The events of a turn, before they are delivered.
 
 ghost use Rattle.std.specs.Prelude.{◌≡◌, ◌<◌, ◌-◌, [], ◌∷◌, ◌++◌, length, IfOk};
+ghost use Rattle.flat_model.specs.Step.{as_events};
 
-use flat_model::{Event, NoMemory};
+use flat_model::{Event, NoMemory, What};
 use std::alloc::Global;
 use std::marker::Model;
 
@@ -56,11 +57,11 @@ impl RawLog {
         self.events.clear();
     }
 
-    /// Appends an event.
-    pub(crate) fn push(&mut self, event: Event)
+    /// Appends an event of a hart's step.
+    pub(crate) fn log(&mut self, hart: u8, step: u64, what: What)
         requires room { length self.old < 2048 }
-        ensures pushed { self.new ≡ self.old ++ event ∷ [] }
+        ensures logged { self.new ≡ self.old ++ as_events hart step (what ∷ []) }
     {
-        self.events.push_reserved(event);
+        self.events.push_reserved(Event { hart, step, what });
     }
 }

@@ -7,7 +7,7 @@ use std::io::ErrorKind;
 use std::process::ExitCode;
 use std::rt::{Env, Files};
 use std::{env, io};
-use watcher_api::Recorder;
+use watcher_api::Counter;
 
 /// The words without the program's own name.
 fn words(rt: &(impl Env + AllocGlobal)) -> io::Result<Vec<String>> {
@@ -22,11 +22,11 @@ fn refusal(error: &io::Error) -> Refusal {
     }
 }
 
-/// Makes the top call, over the real files and streams, with one box.
-fn call(rt: &HostRuntime, report: &mut impl Sink) -> io::Result<OneEnded<Recorder>> {
+/// Makes the top call, over the real files and streams, with one box, which keeps no event.
+fn call(rt: &HostRuntime, report: &mut impl Sink) -> io::Result<OneEnded<Counter>> {
     let words = words(rt)?;
     let mut watchers = Vec::with_capacity(rt.alloc(), 1)?;
-    watchers.push(Recorder::blank(rt.alloc()))?;
+    watchers.push(Counter::blank())?;
     let mut files = RealFiles::new(rt);
     let mut out = RealSink::new(rt.stdout());
     Ok(host_one(

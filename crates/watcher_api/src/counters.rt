@@ -1,4 +1,4 @@
-//! A box of the tests that keeps no event.
+//! A box that keeps the number of its calls alone.
 
 ghost use Rattle.std.specs.Prelude.{◌≡◌, None, length};
 
@@ -6,16 +6,19 @@ use crate::watchers::{Watcher, asked};
 use flat_model::{Ask, Event, Kind, KindName, NoMemory, Row};
 use std::alloc::Global;
 
-// It counts its calls, so it stands for every list of that length. It has no memory for the rows of Exec.
+/// A box that counts its calls and keeps no event, so it takes no memory: it stands for every list of that length.
+/// A tally of a kind that has rows finds no memory for them.
 #[derive(Drop)]
 pub struct Counter {
     kind: Option<Kind>,
+    /// The calls since it was prepared.
     pub calls: u64,
 }
 
 impl Counter {
+    /// A blank box.
     pub fn blank() -> Counter
-        ensures { ⟦<Counter as Watcher>⟧.kind_of result ≡ None }
+        ensures blank { ⟦<Counter as Watcher>⟧.kind_of result ≡ None }
     {
         Counter {
             kind: None,

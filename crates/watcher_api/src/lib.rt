@@ -2,13 +2,13 @@
 //! that is held beside what it heard.
 #![tactic(auto)]
 
+pub use counters::Counter;
 pub use holders::Held;
 pub use recorders::{Recorder, rows_of};
 pub use refusers::Refuser;
 pub use traces::Trace;
 pub use watchers::{Watcher, asked};
 
-#[cfg(test)]
 mod counters;
 mod holders;
 mod recorders;

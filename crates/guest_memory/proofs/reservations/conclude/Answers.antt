@@ -1,5 +1,5 @@
 use Rattle.std.proofs.Common.{◌≡◌, ℕ, ◌<◌, length, slice_index_or, None, Option, cond, arith, ◌∙◌, refl}
-use Rattle.guest_memory.specs.Access.{ended}
+use Rattle.flat_model.specs.Access.{ended}
 use Rattle.guest_memory.proofs.Reserves.{with_set, with_along}
 use Rattle.guest_memory.proofs.reservations.conclude.Goals as goal
 use Rattle.guest_memory.proofs.reservations.conclude.Goals.{then-stored, else-stored}

@@ -1,5 +1,5 @@
 use Rattle.std.proofs.Common.{◌≡◌, ℕ, ◌<◌, ◌≤◌, slice_index_or, None}
-use Rattle.guest_memory.specs.Access.{ended}
+use Rattle.flat_model.specs.Access.{ended}
 use Rattle.guest_memory.proofs.reservations.end_others.Given as goal
 
 abbrev pub invariant-loop-k : goal.invariant-loop-k

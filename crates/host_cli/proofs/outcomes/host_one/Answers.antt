@@ -14,12 +14,11 @@ returns-in-Run-clause-answers g c =
     runs c.in-Ok.image c.run_image.result.status c.run_image.result.hart
     (sym c.asked_verb.ensures.verb ∙ c.in-Some.is ∙ ap Some c.in-Run.is)
     (rw c.file_name-name.ensures.name at c.in-Ok.ensures.cases)
-    refl
-    (rw c.file_name-name.ensures.name at c.run_image.ensures.answers)
+    c.run_image.ensures.answers
 
 pub returns-clause-answers : goal.returns-clause-answers
 returns-clause-answers g c =
-    lists c.in-Ok.image c.list_image-status.result
-    (sym c.asked_verb.ensures.verb ∙ c.in-Some.is ∙ ap Some c.in-Disas.is)
+    lists c.in-Lists.what c.in-Ok.image c.list_image-status.result
+    (sym c.asked_verb.ensures.verb ∙ c.in-Some.is ∙ ap Some c.in-Lists.is)
     (rw c.file_name-name.ensures.name at c.in-Ok.ensures.cases)
     c.list_image-status.ensures.answers

@@ -5,7 +5,7 @@ use Rattle.host_cli.proofs.single_hart.run.Given as goal
 
 abbrev pub invariant-steps : goal.invariant-steps
 invariant-steps g l = record {
-  running : IsRunning l.image l.hart;
+  running : IsRunning l.image l.hart l.memory l.services.output.items l.services.group;
   heard : l.to ≡ record l.initial.to { events = events_of l.image l.hart };
 }
 

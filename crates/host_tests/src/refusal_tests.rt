@@ -1,0 +1,72 @@
+use crate::calls::{assert_run, called, failing_sink, good_sink, only_file};
+use crate::files::{CODE, EXIT_0, elf};
+use outer_io::MemFiles;
+use std::test::Fail;
+
+#[test]
+fn a_file_that_is_no_program_is_refused(rt: HostRuntime) -> Result<(), Fail> {
+    let alloc = rt.alloc();
+    assert_run(
+        &rt,
+        alloc,
+        b"",
+        4,
+        "tcg_host: image: file too short: need 64, got 0\n",
+    )?;
+    assert_run(
+        &rt,
+        alloc,
+        b"#!/bin/sh\necho this is a text file and no ELF file, though it is long enough\n",
+        4,
+        "tcg_host: image: not ELF\n",
+    )
+}
+
+#[test]
+fn each_refusal_has_its_status_and_line(rt: HostRuntime) -> Result<(), Fail> {
+    let alloc = rt.alloc();
+    let mut files = only_file(alloc, &elf(alloc, CODE, &EXIT_0)?);
+    for (words, status, line) in [
+        (
+            ["run", "none"].as_slice(),
+            3,
+            "tcg_host: cannot read none\n",
+        ),
+        (["run"].as_slice(), 2, "tcg_host: not built\n"),
+        (["run", "F", "F"].as_slice(), 2, "tcg_host: not built\n"),
+        (["run", "-F"].as_slice(), 2, "tcg_host: not built\n"),
+        (["walk", "F"].as_slice(), 2, "tcg_host: not built\n"),
+        ([].as_slice(), 2, "tcg_host: not built\n"),
+    ] {
+        let call = called(alloc, words, &mut files, good_sink(alloc), good_sink(alloc))?;
+        assert_eq!(rt; call.report.bytes(), line.as_bytes());
+        assert_eq!(rt; call.status, status);
+        assert_eq!(rt; call.events.len(), 0);
+    }
+    Ok(())
+}
+
+#[test]
+fn failing_calls_of_files_and_sinks_have_their_statuses(rt: HostRuntime) -> Result<(), Fail> {
+    let alloc = rt.alloc();
+    let run = ["run", "F"];
+    let mut first = Vec::new(alloc);
+    first.push(1)?;
+    let mut files = MemFiles::new(alloc, first, Vec::new(alloc));
+    let _ = files.add("F", &elf(alloc, CODE, &EXIT_0)?);
+    let unread = called(alloc, &run, &mut files, good_sink(alloc), good_sink(alloc))?;
+    assert_eq!(rt; unread.status, 3);
+    assert_eq!(rt;
+        unread.report.bytes(),
+        b"tcg_host: cannot read F\n".as_slice()
+    );
+
+    // The report's one put fails: after a run, and after a refusal.
+    for (words, status) in [(run.as_slice(), 6), (["walk"].as_slice(), 2)] {
+        let report = failing_sink(alloc, 1)?;
+        let call = called(alloc, words, &mut files, good_sink(alloc), report)?;
+        assert_eq!(rt; call.status, status);
+        assert_eq!(rt; call.report.bytes(), b"".as_slice());
+    }
+    Ok(())
+}
