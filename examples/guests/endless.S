@@ -1,0 +1,4 @@
+# A loop without an end.
+        .globl  _start
+_start:
+        j       _start

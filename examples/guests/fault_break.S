@@ -1,0 +1,5 @@
+# EBREAK.
+        .globl  _start
+_start:
+        nop
+        ebreak
