@@ -1,6 +1,7 @@
 -- Loads and stores of memory that has a byte at every address, and the reservations of its harts
 -- (RISC-V Unprivileged ISA 20191213, 2.6 and 8.2).
-use Rattle.std.specs.Prelude.{ℕ, zero, suc, ◌+◌, ◌-◌, ◌&&◌, ◌==◌, nat_lt, nat_le, Bool, false, if◌then◌else◌, List, [], ◌∷◌, slice_index, Option, Some, None}
+use Rattle.std.specs.Prelude.{ℕ, zero, suc, ◌+◌, ◌-◌, ◌&&◌, ◌==◌, nat_lt, nat_le, Bool, false, if◌then◌else◌, List, [], ◌∷◌}
+use Rattle.std.specs.Prelude.{slice_index, Option, Some, None}
 use Rattle.std.specs.Int.{from_le_bytes, to_le_bytes, w64}
 
 -- the little-endian number that at most eight bytes hold
@@ -29,15 +30,15 @@ unfoldable pub stored : (ℕ → ℕ) → ℕ → ℕ → ℕ → ℕ → ℕ
 stored bytes addr n value at = if is_within addr n at then slice_index (bytes_of_number value) (at - addr) else bytes at
 
 -- the 8 bytes reserved at a share one with the n from addr
-abbrev pub meets : ℕ → ℕ → ℕ → Bool
-meets addr n a = nat_lt a (addr + n) && nat_lt addr (a + 8)
+abbrev pub touches : ℕ → ℕ → ℕ → Bool
+touches addr n a = nat_lt a (addr + n) && nat_lt addr (a + 8)
 
 -- a reservation that a store of another hart leaves
 unfoldable pub left_by : ℕ → ℕ → Option ℕ → Option ℕ
 left_by addr n None = None
-left_by addr n (Some a) = if meets addr n a then None else Some a
+left_by addr n (Some a) = if touches addr n a then None else Some a
 
--- hart h's store of n bytes ends the reservations of other harts that it meets
+-- hart h's store of n bytes ends the reservations of other harts that it touches
 unfoldable pub ended : (ℕ → Option ℕ) → ℕ → ℕ → ℕ → ℕ → Option ℕ
 ended reserved h addr n k = if k == h then reserved k else left_by addr n (reserved k)
 

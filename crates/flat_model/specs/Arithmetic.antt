@@ -1,14 +1,18 @@
 -- What the instructions that compute give, on registers as unsigned 64-bit numbers: RISC-V Unprivileged ISA
 -- 20191213, sections 2.4, 2.5 and 5.2, and chapters 7 (M) and 8 (A).
-use Rattle.std.specs.Prelude.{ℕ, ◌+◌, ◌-◌, ◌*◌, ◌/◌, ◌%◌, ◌^◌, ◌==◌, Bool, true, false, not, if◌then◌else◌, nat_lt, ℤ, pos, ◌*ℤ◌, int_lt, int_div, int_rem, bit_and, bit_or, bit_xor}
+use Rattle.std.specs.Prelude.{ℕ, ◌+◌, ◌-◌, ◌*◌, ◌/◌, ◌%◌, ◌^◌, ◌==◌, Bool, true, false, not, if◌then◌else◌, nat_lt, ℤ, pos, ◌*ℤ◌}
+use Rattle.std.specs.Prelude.{int_lt, int_div, int_rem, bit_and, bit_or, bit_xor}
 use Rattle.std.specs.Int.{Width, w8, w16, w32, w64, cast_signed, cast_unsigned, int_shr, from_bool}
 use mir.Val.{bits}
 use Rattle.flat_model.specs.declared.instructions.BranchOp.{BranchOp}
 use Rattle.flat_model.specs.declared.instructions.BranchOp.TheVariants.{Beq, Bne, Blt, Bge, Bltu, Bgeu}
 use Rattle.flat_model.specs.declared.instructions.ImmOp.{ImmOp}
-use Rattle.flat_model.specs.declared.instructions.ImmOp.TheVariants.{Addi, Slti, Sltiu, Xori, Ori, Andi, Slli, Srli, Srai, Addiw, Slliw, Srliw, Sraiw}
+use Rattle.flat_model.specs.declared.instructions.ImmOp.TheVariants.{Addi, Slti, Sltiu, Xori, Ori, Andi, Slli, Srli, Srai, Addiw, Slliw}
+use Rattle.flat_model.specs.declared.instructions.ImmOp.TheVariants.{Srliw, Sraiw}
 use Rattle.flat_model.specs.declared.instructions.RegOp.{RegOp}
-use Rattle.flat_model.specs.declared.instructions.RegOp.TheVariants.{Add, Sub, Sll, Slt, Sltu, Xor, Srl, Sra, Or, And, Mul, Mulh, Mulhsu, Mulhu, Div, Divu, Rem, Remu, Addw, Subw, Sllw, Srlw, Sraw, Mulw, Divw, Divuw, Remw, Remuw}
+use Rattle.flat_model.specs.declared.instructions.RegOp.TheVariants.{Add, Sub, Sll, Slt, Sltu, Xor, Srl, Sra, Or, And, Mul, Mulh}
+use Rattle.flat_model.specs.declared.instructions.RegOp.TheVariants.{Mulhsu, Mulhu, Div, Divu, Rem, Remu, Addw, Subw, Sllw, Srlw, Sraw}
+use Rattle.flat_model.specs.declared.instructions.RegOp.TheVariants.{Mulw, Divw, Divuw, Remw, Remuw}
 use Rattle.flat_model.specs.declared.instructions.LoadOp.{LoadOp}
 use Rattle.flat_model.specs.declared.instructions.LoadOp.TheVariants.{Lb, Lh, Lw, Ld, Lbu, Lhu, Lwu}
 use Rattle.flat_model.specs.declared.instructions.AtomicOp.{AtomicOp}

@@ -3,7 +3,8 @@
 use Rattle.std.specs.Prelude.{ℕ, ◌-◌, ◌*◌, ◌%◌, ◌==◌, Bool, true, false, if◌then◌else◌, List, slice_index, slice_set, ℤ, Option, Some, None}
 use Rattle.std.specs.Option.{option_map_or}
 use Rattle.flat_model.specs.declared.instructions.Ins.{Ins}
-use Rattle.flat_model.specs.declared.instructions.Ins.TheVariants.{Lui, Auipc, Jal, Jalr, Branch, Load, Store, Imm, Reg, Atomic, Fence, FenceI, Ecall, Ebreak}
+use Rattle.flat_model.specs.declared.instructions.Ins.TheVariants.{Lui, Auipc, Jal, Jalr, Branch, Load, Store, Imm, Reg, Atomic, Fence}
+use Rattle.flat_model.specs.declared.instructions.Ins.TheVariants.{FenceI, Ecall, Ebreak}
 use Rattle.flat_model.specs.declared.events.FaultKind.TheVariants.{MisalignedJump, Break, Fetch, Illegal}
 use Rattle.flat_model.specs.declared.effects.Done.{Done}
 use Rattle.flat_model.specs.declared.effects.Done.TheVariants.{Goes, Fails}

@@ -1,5 +1,7 @@
 -- The memory image that an ELF64 file gives: one segment for each PT_LOAD header, and the entry.
-use Rattle.std.specs.Prelude.{ℕ, ◌+◌, ◌-◌, ◌*◌, ◌%◌, ◌^◌, ◌≤◌, ◌≡◌, ◌⊎◌, ◌&&◌, ◌==◌, nat_le, Bool, false, if◌then◌else◌, List, length, slice_index, Option, None, option_map, find, All, AllPairs}
+use Rattle.std.specs.Prelude.{ℕ, ◌+◌, ◌-◌, ◌*◌, ◌%◌, ◌^◌, ◌≤◌, ◌≡◌, ◌⊎◌, ◌&&◌, ◌==◌, nat_le, Bool, false, if◌then◌else◌, List, length}
+use Rattle.std.specs.Prelude.{slice_index, Option, None, option_map, find, All, AllPairs}
+use Rattle.flat_model.specs.declared.limits.TheConstants.{SEGMENTS_END}
 
 -- bytes at an address, with their permissions to read, write and execute
 pub record Segment : Type 0 where
@@ -30,7 +32,7 @@ AreApart s t = (end_of s ≤ t.base) ⊎ (end_of t ≤ s.base)
 -- and the entry is a multiple of 4
 pub record IsImage (p : Program) : Type 0 where
   pub apart : AllPairs AreApart p.regions
-  pub low : All (λ s. end_of s ≤ 0x3FFFC00000) p.regions
+  pub low : All (λ s. end_of s ≤ SEGMENTS_END) p.regions
   pub no_writable_code : All (λ s. (s.w && s.x) ≡ false) p.regions
   pub aligned : p.entry % 4 ≡ 0
 
@@ -38,7 +40,8 @@ pub record IsImage (p : Program) : Type 0 where
 abbrev pub word_of : ℕ → Segment → ℕ
 word_of pc s =
     let i = pc - s.base in
-    slice_index s.bytes i + 2 ^ 8 * slice_index s.bytes (i + 1) + 2 ^ 16 * slice_index s.bytes (i + 2) + 2 ^ 24 * slice_index s.bytes (i + 3)
+    slice_index s.bytes i + 2 ^ 8 * slice_index s.bytes (i + 1) + 2 ^ 16 * slice_index s.bytes (i + 2)
+    + 2 ^ 24 * slice_index s.bytes (i + 3)
 
 -- the executable segment with the four bytes at pc
 abbrev pub code_at : List Segment → ℕ → Option Segment

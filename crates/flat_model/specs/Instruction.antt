@@ -1,18 +1,25 @@
 -- The instruction table of RV64IMA: which word is which instruction, with its fields in the manual's forms.
 -- RISC-V Unprivileged ISA 20191213, chapter 24, with RV32I, RV64I, Zifencei, M and A.
-use Rattle.std.specs.Prelude.{◌↔◌, ◌≡◌, ◌&&◌, ◌||◌, ◌^◌, ◌<◌, ◌%◌, ◌≤ℤ◌, ℕ, ℤ, pos, neg_ℤ, nat_abs, Bool, true, false, ◌==◌, if◌then◌else◌, Option, Some, None, option_map, option_and_then}
+use Rattle.std.specs.Prelude.{◌↔◌, ◌≡◌, ◌&&◌, ◌||◌, ◌^◌, ◌<◌, ◌%◌, ◌≤ℤ◌, ℕ, ℤ, pos, neg_ℤ, nat_abs, Bool, true, false, ◌==◌}
+use Rattle.std.specs.Prelude.{if◌then◌else◌, Option, Some, None, option_map, option_and_then}
 use Rattle.std.specs.Option.{option_map_or}
 use Rattle.flat_model.specs.declared.instructions.Ins.{Ins}
-use Rattle.flat_model.specs.declared.instructions.Ins.TheVariants.{Lui, Auipc, Jal, Jalr, Branch, Load, Store, Imm, Reg, Atomic, Fence, FenceI, Ecall, Ebreak}
+use Rattle.flat_model.specs.declared.instructions.Ins.TheVariants.{Lui, Auipc, Jal, Jalr, Branch, Load, Store, Imm, Reg, Atomic, Fence}
+use Rattle.flat_model.specs.declared.instructions.Ins.TheVariants.{FenceI, Ecall, Ebreak}
 use Rattle.flat_model.specs.declared.instructions.ImmOp.{ImmOp}
 use Rattle.flat_model.specs.declared.instructions.ImmOp.TheVariants.{Slli, Srli, Srai, Slliw, Srliw, Sraiw}
 use Rattle.flat_model.specs.declared.instructions.RegOp.{RegOp}
-use Rattle.flat_model.specs.declared.instructions.RegOp.TheVariants.{Mul, Mulh, Mulhsu, Mulhu, Div, Divu, Rem, Remu, Mulw, Divw, Divuw, Remw, Remuw}
+use Rattle.flat_model.specs.declared.instructions.RegOp.TheVariants.{Mul, Mulh, Mulhsu, Mulhu, Div, Divu, Rem, Remu, Mulw, Divw, Divuw}
+use Rattle.flat_model.specs.declared.instructions.RegOp.TheVariants.{Remw, Remuw}
 use Rattle.flat_model.specs.declared.instructions.AtomicOp.{AtomicOp}
 use Rattle.flat_model.specs.declared.events.Class.{Class}
-use Rattle.flat_model.specs.declared.events.Class.TheVariants.{Alu, MulDiv, Load as LoadClass, Store as StoreClass, Branch as BranchClass, Jump, Atomic as AtomicClass, System, Illegal}
-use Rattle.flat_model.specs.Rows.{branch_funct3, load_funct3, store_funct3, imm_row, IsImmediate, reg_row, atomic_funct5, MayHaveSource, width_funct3, branch_op, load_op, store_op, imm_op, word_imm_op, immediate_of, reg_op, word_reg_op, atomic_op, wide_at}
-pub use Rattle.flat_model.specs.Fields.{field, flag, signed_at, opcode, rd_of, funct3, rs1_of, rs2_of, funct7, funct5, i_immediate, s_immediate, b_immediate, u_top, j_immediate}
+use Rattle.flat_model.specs.declared.events.Class.TheVariants.{Alu, MulDiv, Load as LoadClass, Store as StoreClass}
+use Rattle.flat_model.specs.declared.events.Class.TheVariants.{Branch as BranchClass, Jump, Atomic as AtomicClass, System, Illegal}
+use Rattle.flat_model.specs.Rows.{branch_funct3, load_funct3, store_funct3, imm_row, IsImmediate, reg_row, atomic_funct5, MayHaveSource}
+use Rattle.flat_model.specs.Rows.{width_funct3, branch_op, load_op, store_op, imm_op, word_imm_op, immediate_of, reg_op, word_reg_op}
+use Rattle.flat_model.specs.Rows.{atomic_op, wide_at}
+pub use Rattle.flat_model.specs.Fields.{field, flag, signed_at, opcode, rd_of, funct3, rs1_of, rs2_of, funct7, funct5, i_immediate}
+pub use Rattle.flat_model.specs.Fields.{s_immediate, b_immediate, u_top, j_immediate}
 
 -- the word is this instruction
 abbrev pub Table : ℕ → Ins → Type 0

@@ -15,6 +15,7 @@ pub mod Asks
 pub mod Columns
 pub mod Plan
 pub mod Log
+pub mod Worlds
+pub mod Acts
 pub mod Registry
 pub mod Kinds
-pub mod Tallies

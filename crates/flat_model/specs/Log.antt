@@ -1,19 +1,14 @@
 -- The log of a journal: all that happened, one item after the other. It is a list with the latest item
--- first, so that the rules of the journal are recursions over what came before.
+-- first, so that the rules of the journal are recursions over what came before. The log of the state that the harts share
+-- has two more kinds of item between, `Got` and `Took`, which stand in no journal.
 use Rattle.std.specs.Prelude.{ℕ, zero, suc, ◌+◌, ◌<◌, ◌≡◌, ◌==◌, Bool, false, List, [], ◌∷◌, Option, Some, None}
-use Rattle.flat_model.specs.declared.journals.Order.{Order}
 use Rattle.flat_model.specs.declared.journals.Origin.{Origin}
 use Rattle.flat_model.specs.declared.journals.Origin.TheVariants as origins
+use Rattle.flat_model.specs.declared.journals.Item.{Item}
+use Rattle.flat_model.specs.declared.journals.Item.TheVariants.{Step, Ordered, GaveBack, Left, Told, Got, Took}
 use Rattle.flat_model.specs.declared.journals.Entry.{Entry}
 use Rattle.flat_model.specs.declared.journals.Entry.TheVariants as entries
-
--- a step of a hart, or an entry that is no Turn
-pub data Item : Type 0 where
-  Step : (hart : ℕ) → Item
-  Ordered : (origin : Origin) (order : Order) → Item
-  GaveBack : (hart plugin : ℕ) → Item
-  Left : (hart : ℕ) → Item
-  Told : (party plugin : ℕ) → Item
+use Rattle.flat_model.specs.declared.limits.TheConstants.{NO_PARTY}
 
 -- n steps of a hart, after what was before
 abbrev pub steps : ℕ → ℕ → List Item → List Item
@@ -44,10 +39,23 @@ total_steps (Ordered origin order ∷ past) = total_steps past
 total_steps (GaveBack hart plugin ∷ past) = total_steps past
 total_steps (Left hart ∷ past) = total_steps past
 total_steps (Told party plugin ∷ past) = total_steps past
+total_steps (Got hart plugin ∷ past) = total_steps past
+total_steps (Took party plugin ∷ past) = total_steps past
 
--- who gave an order; 255 is nobody
+-- what stands in the journal
+abbrev pub journaled : List Item → List Item
+journaled [] = []
+journaled (Step hart ∷ past) = Step hart ∷ journaled past
+journaled (Ordered origin order ∷ past) = Ordered origin order ∷ journaled past
+journaled (GaveBack hart plugin ∷ past) = GaveBack hart plugin ∷ journaled past
+journaled (Left hart ∷ past) = Left hart ∷ journaled past
+journaled (Told party plugin ∷ past) = Told party plugin ∷ journaled past
+journaled (Got hart plugin ∷ past) = journaled past
+journaled (Took party plugin ∷ past) = journaled past
+
+-- who gave an order
 abbrev pub giver : Origin → ℕ
-giver origins.Start = 255
+giver origins.Start = NO_PARTY
 giver (origins.Script line party) = party
 giver (origins.Asked hart plugin) = hart
 giver (origins.Control party) = party
@@ -58,6 +66,8 @@ party (Ordered origin order) = giver origin
 party (GaveBack hart plugin) = hart
 party (Left hart) = hart
 party (Told who plugin) = who
+party (Got hart plugin) = hart
+party (Took who plugin) = who
 
 -- the hart of a Turn
 abbrev pub turning : Entry → Option ℕ
@@ -93,3 +103,7 @@ IsJoined es = IsJoinedAfter None es
 abbrev pub last_turn : Option ℕ → List Entry → Option ℕ
 last_turn last [] = last
 last_turn last (e ∷ es) = last_turn (turning e) es
+
+-- a journal with its Turns joined is the only one of its log
+abbrev pub JournalIsOne : Type 0
+JournalIsOne = (es fs : List Entry) → IsJoined es → IsJoined fs → log es ≡ log fs → es ≡ fs

@@ -1,6 +1,7 @@
 -- Which accesses are permitted, byte by byte.
 use Rattle.std.specs.Prelude.{ℕ, zero, suc, ◌+◌, ◌-◌, ◌*◌, ◌^◌, ◌&&◌, nat_lt, nat_le, Bool, true, false, List, [], ◌∷◌, ◌++◌, map, length}
 use Rattle.std.specs.List.{list_any}
+use Rattle.flat_model.specs.declared.limits.TheConstants.{STACKS_END, STACK_STRIDE, STACK_BYTES}
 use Rattle.flat_model.specs.Image.{Segment, Program}
 
 -- how many addresses there are from an address on, with what may be done there
@@ -22,12 +23,12 @@ grants Readable s = s.r
 grants Writable s = s.w
 grants Executable s = s.x
 
--- where hart h's stack begins: 65,536 bytes, readable and writable
+-- where hart h's stack begins, which is readable and writable
 abbrev pub stack_base : ℕ → ℕ
-stack_base h = 0x4000000000 - (h + 1) * 0x20000
+stack_base h = STACKS_END - (h + 1) * STACK_STRIDE
 
 abbrev pub stack_of : ℕ → Span
-stack_of h = record { base = stack_base h; size = 0x10000; r = true; w = true; x = false }
+stack_of h = record { base = stack_base h; size = STACK_BYTES; r = true; w = true; x = false }
 
 -- the stacks of harts 0 to n - 1
 abbrev pub stacks : ℕ → List Span

@@ -1,6 +1,7 @@
 -- One step of a hart of the flat machine, with the events that it gives; `docs/guest-machine.md` and
 -- `docs/events.md` say it in words.
-use Rattle.std.specs.Prelude.{◌≡◌, ℕ, zero, suc, ◌+◌, ◌%◌, ◌==◌, ◌&&◌, ◌||◌, Bool, true, if◌then◌else◌, List, [], ◌∷◌, ◌++◌, map, Option, Some, None, is_some}
+use Rattle.std.specs.Prelude.{◌≡◌, ℕ, zero, suc, ◌+◌, ◌%◌, ◌==◌, ◌&&◌, ◌||◌, Bool, true, if◌then◌else◌, List, [], ◌∷◌, ◌++◌, map}
+use Rattle.std.specs.Prelude.{Option, Some, None, is_some}
 use Rattle.std.specs.Option.{option_map_or}
 use Rattle.flat_model.specs.declared.events.Ending.{Ending}
 use Rattle.flat_model.specs.declared.events.Ending.TheVariants.{Fault, Limit}
@@ -9,10 +10,11 @@ use Rattle.flat_model.specs.declared.events.What.{What}
 use Rattle.flat_model.specs.declared.events.What.TheVariants.{Init, Block, Insn, Exit}
 use Rattle.flat_model.specs.declared.effects.Done.{Done}
 use Rattle.flat_model.specs.declared.effects.Done.TheVariants.{Goes, Fails, Leaves}
+use Rattle.flat_model.specs.declared.limits.TheConstants.{PAGE_BYTES, BLOCK_WORDS}
 use Rattle.flat_model.specs.Image.{Program, word_at}
 use Rattle.flat_model.specs.Permission.{spans_of}
 use Rattle.flat_model.specs.Blocks.{word_ends, length_of}
-use Rattle.flat_model.specs.World.{Machine, HartState, Shared, World, opening_world}
+use Rattle.flat_model.specs.World.{Start, Machine, HartState, Shared, World, started_hart}
 use Rattle.flat_model.specs.Effect.{effect_of_word, following, with_register}
 use Rattle.flat_model.specs.Outcome.{Outcome, outcome}
 
@@ -32,12 +34,15 @@ ends_with word = option_map_or word_ends word true
 
 -- the hart once a step has begun: the step is counted, and the block where it starts one at a present word
 abbrev pub begun : HartState → Bool → HartState
-begun hart present = record hart { steps = hart.steps + 1; blocks = hart.blocks + (if starts_block hart && present then 1 else 0) }
+begun hart present = record hart {
+  steps = hart.steps + 1;
+  blocks = hart.blocks + (if starts_block hart && present then 1 else 0);
+}
 
 -- the steps since the last block start, once the hart has gone on to the target: the next step starts a block
--- behind a word that ends one, at a multiple of 4,096, and after 512 steps
+-- behind a word that ends one, at the start of a page, and after as many steps as a block has words at most
 abbrev pub since_after : ℕ → Bool → ℕ → ℕ
-since_after since ends target = if ends || (target % 4096 == 0) || (since + 1 == 512) then 0 else since + 1
+since_after since ends target = if ends || (target % PAGE_BYTES == 0) || (since + 1 == BLOCK_WORDS) then 0 else since + 1
 
 -- a hart that hasn't ended otherwise ends with the step that its limit allows last
 abbrev pub ending_at : ℕ → ℕ → Option Ending
@@ -45,7 +50,12 @@ ending_at limit steps = if steps == limit then Some Limit else None
 
 -- the hart after its step, by whether its word is present and ends a block, and by what was done
 abbrev pub after_done : ℕ → HartState → Bool → Bool → Done → HartState
-after_done limit hart present ends (Goes rd value target) = record (begun hart present) { pc = target; x = with_register hart.x rd value; since = since_after hart.since ends target; ending = ending_at limit (hart.steps + 1) }
+after_done limit hart present ends (Goes rd value target) = record (begun hart present) {
+  pc = target;
+  x = with_register hart.x rd value;
+  since = since_after hart.since ends target;
+  ending = ending_at limit (hart.steps + 1);
+}
 after_done limit hart present ends (Fails kind) = record (begun hart present) { ending = Some (Fault kind hart.pc) }
 after_done limit hart present ends (Leaves ending) = record (begun hart present) { pc = following hart; since = 0; ending = Some ending }
 
@@ -77,34 +87,49 @@ as_events h step whats = map (λ what. record { hart = h; step = step; what = wh
 
 -- hart h's step at a word with this outcome, in a block of n words where it starts one
 abbrev pub stepped : ℕ → ℕ → HartState → Option ℕ → ℕ → Outcome → Stepped
-stepped limit h hart word n o = record { hart = hart_after limit hart word o.done; shared = o.shared; events = as_events h (hart.steps + 1) (start_told hart word n ++ (o.told ++ exit_told (hart_after limit hart word o.done).ending)) }
+stepped limit h hart word n o = record {
+  hart = hart_after limit hart word o.done;
+  shared = o.shared;
+  events = as_events h (hart.steps + 1) (start_told hart word n ++ (o.told ++ exit_told (hart_after limit hart word o.done).ending));
+}
 
 -- hart h's step at the word that is at pc
 abbrev pub step_at : Machine → ℕ → HartState → Shared → Option ℕ → Stepped
-step_at m h hart shared word = stepped m.limit h hart word (length_of m.image hart.pc) (outcome (spans_of m.image m.harts) h hart shared (effect_of_word hart word))
+step_at m h hart shared word =
+    stepped m.limit h hart word (length_of m.image hart.pc)
+    (outcome (spans_of m.image m.harts) m.harts h hart shared (effect_of_word hart word))
 
--- a step of a hart that has ended, or after the group has ended, changes nothing and gives no event
+-- a step of a hart that is parked or has ended, or after the group has ended, changes nothing and gives no event
 abbrev pub is_over : HartState → Shared → Bool
-is_over hart shared = is_some hart.ending || is_some shared.group
+is_over hart shared = (hart.parked || is_some hart.ending) || is_some shared.group
 
 unfoldable pub step_of : Machine → ℕ → HartState → Shared → Stepped
 step_of m h hart shared =
     if is_over hart shared then (record { hart = hart; shared = shared; events = [] })
     else step_at m h hart shared (word_at m.image hart.pc)
 
+-- a hart as another hart's step leaves it: it begins by its start where the step gave it one, and else nothing of it changes
+abbrev pub awoken : ℕ → ℕ → Option Start → Option Start → HartState → HartState
+awoken k harts None None hart = hart
+awoken k harts None (Some start) hart = started_hart k harts start
+awoken k harts (Some start) after hart = hart
+
 -- hart h makes one step in the world
-abbrev pub step : Machine → World → ℕ → World
-step m world h = record { harts = λ k. (if k == h then (step_of m h (world.harts h) world.shared).hart else world.harts k); shared = (step_of m h (world.harts h) world.shared).shared }
+unfoldable pub step : Machine → World → ℕ → World
+step m world h =
+    let s = step_of m h (world.harts h) world.shared in
+    record {
+      harts = λ k. (if k == h then s.hart else awoken k m.harts (world.shared.starts k) (s.shared.starts k) (world.harts k));
+      shared = s.shared;
+    }
 
--- the world after hart h alone has made n steps from the opening world
-unfoldable pub world_after : Machine → ℕ → ℕ → World
-world_after m h zero = opening_world m
-world_after m h (suc n) = step m (world_after m h n) h
-
--- the events of hart h, alone, over its first n steps from the opening world, in order
-unfoldable pub events_after : Machine → ℕ → ℕ → List Event
-events_after m h zero = []
-events_after m h (suc n) = events_after m h n ++ (step_of m h ((world_after m h n).harts h) (world_after m h n).shared).events
+-- n steps of hart h in a row, with all their events
+unfoldable pub steps_of : Machine → ℕ → ℕ → HartState → Shared → Stepped
+steps_of m h zero hart shared = record { hart = hart; shared = shared; events = [] }
+steps_of m h (suc n) hart shared =
+    let before = steps_of m h n hart shared in
+    let s = step_of m h before.hart before.shared in
+    record { hart = s.hart; shared = s.shared; events = before.events ++ s.events }
 
 -- Steps as the code makes them, with their events appended to a log.
 
@@ -112,7 +137,9 @@ events_after m h (suc n) = events_after m h n ++ (step_of m h ((world_after m h 
 pub record IsPrivateStep (image : Program) (limit h : ℕ) (old new : HartState) (before after : List Event) : Type 0 where
   pub given : List Event
   pub appended : after ≡ before ++ given
-  pub in_every_world : (harts : ℕ) (shared : Shared) → shared.group ≡ None → step_of (record { image = image; harts = harts; limit = limit }) h old shared ≡ record { hart = new; shared = shared; events = given }
+  pub in_every_world : (harts : ℕ) (shared : Shared) → shared.group ≡ None
+      → step_of (record { image = image; harts = harts; limit = limit }) h old shared
+      ≡ record { hart = new; shared = shared; events = given }
 
 -- a step of hart h from old to new, which leaves this of what is shared
 pub record IsSharedStep (m : Machine) (h : ℕ) (old new : HartState) (shared left : Shared) (before after : List Event) : Type 0 where

@@ -1,5 +1,6 @@
 -- The printed texts of a run and its status; `docs/top-call.md` lists them.
-use Rattle.std.specs.Prelude.{ℕ, zero, suc, ◌+◌, ◌*◌, nat_lt, ◌||◌, Bool, true, false, if◌then◌else◌, List, [], ◌∷◌, ◌++◌, codes, Option, Some, None, ℤ, pos}
+use Rattle.std.specs.Prelude.{ℕ, zero, suc, ◌+◌, ◌*◌, nat_lt, ◌||◌, Bool, true, false, if◌then◌else◌, List, [], ◌∷◌, ◌++◌, codes}
+use Rattle.std.specs.Prelude.{Option, Some, None, ℤ, pos}
 use Rattle.std.specs.List.{list_any}
 use Rattle.std.specs.Fmt.{decimal, signed_decimal}
 use Rattle.flat_model.specs.Fields.{field}
@@ -40,9 +41,15 @@ ending_text group (Some Group) = group_text group
 ending_text group (Some (Fault kind pc)) = codes "fault " ++ (fault_name kind ++ (codes " at 0x" ++ hex 16 pc))
 ending_text group (Some Limit) = codes "limit"
 
+-- what became of a hart; a parked one has never begun
+abbrev pub fate_text : Option ℤ → HartState → List ℕ
+fate_text group hart = if hart.parked then codes "unstarted" else ending_text group hart.ending
+
 -- the report's line of a hart
 unfoldable pub hart_line : ℕ → Option ℤ → HartState → List ℕ
-hart_line h group hart = codes "hart " ++ (decimal h ++ (codes " steps " ++ (decimal hart.steps ++ (codes " blocks " ++ (decimal hart.blocks ++ (codes " " ++ (ending_text group hart.ending ++ codes "\n")))))))
+hart_line h group hart =
+    codes "hart " ++ (decimal h ++ (codes " steps " ++ (decimal hart.steps ++ (codes " blocks " ++ (decimal hart.blocks
+    ++ (codes " " ++ (fate_text group hart ++ codes "\n")))))))
 
 abbrev pub is_fault : Option Ending → Bool
 is_fault (Some (Fault kind pc)) = true

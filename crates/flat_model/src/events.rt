@@ -61,14 +61,17 @@ pub enum What {
         pc: u64,
         word: u32,
     },
-    /// An access of `2 ^ shift` bytes at `addr` by the instruction at `pc`; `value` has the raw bits.
+    /// An access of `2 ^ shift` bytes at `addr` by the instruction at `pc`. `rw` is 1 for a load or LR, 2 for a store or
+    /// SC and 3 for an AMO. `read` has the raw bits that were read, or 0 where `rw` is 2, and `written` those that were
+    /// written, or 0 where `rw` is 1. `signed` is true for LB, LH, LW, LR.W and the W forms of the AMOs.
     Mem {
         pc: u64,
         addr: u64,
         shift: u8,
         signed: bool,
-        store: bool,
-        value: u64,
+        rw: u8,
+        read: u64,
+        written: u64,
     },
     /// A service is called: its number is a7.
     Sys {

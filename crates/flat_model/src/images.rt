@@ -1,9 +1,10 @@
 //! The memory image that a file gives.
 
-ghost use Rattle.std.specs.Prelude.{◌≡◌, ◌≤◌, ◌+◌, ◌&&◌, true, IfSome, AllPairs};
+ghost use Rattle.std.specs.Prelude.{◌≡◌, ◌≤◌, ◌+◌, ◌&&◌, true, IfSome, All, AllPairs};
 ghost use Rattle.std.specs.Option.{option_copied};
 ghost use Rattle.flat_model.specs.Image.{AreApart, word_at, word_of, code_at, holds, end_of};
 
+use crate::limits::SEGMENTS_END;
 use std::marker::Model;
 
 /// Bytes at an address, with their permissions.
@@ -68,6 +69,7 @@ impl Image {
     #[tactic(auto, unfolding(crate::specs::Image::word_at))]
     pub fn word(&self, pc: u64) -> Option<u32>
         ensures word { result ≡ word_at self.now pc }
+        ensures low { IfSome result (λ _. pc + 4 ≤ SEGMENTS_END) }
     {
         if pc % 4 != 0 {
             return None;
@@ -90,8 +92,10 @@ fn likely(regions: &[Region], pc: u64) -> usize {
 #[inline(always)]
 fn code_region(regions: &[Region], pc: u64) -> Option<&Region>
     requires apart { AllPairs AreApart regions.now }
+    requires low { All (λ s. end_of s ≤ SEGMENTS_END) regions.now }
     ensures found { option_copied result ≡ code_at regions.now pc }
     ensures code { IfSome result (λ r. (r.now.x && holds pc 4 r.now) ≡ true) }
+    ensures low { IfSome result (λ r. end_of r.now ≤ SEGMENTS_END) }
 {
     let guess = likely(regions, pc);
     if guess < regions.len() {
@@ -106,8 +110,10 @@ fn code_region(regions: &[Region], pc: u64) -> Option<&Region>
 /// The first region with the four bytes at `pc` as code.
 #[inline(never)]
 fn search(regions: &[Region], pc: u64) -> Option<&Region>
+    requires low { All (λ s. end_of s ≤ SEGMENTS_END) regions.now }
     ensures found { option_copied result ≡ code_at regions.now pc }
     ensures code { IfSome result (λ r. (r.now.x && holds pc 4 r.now) ≡ true) }
+    ensures low { IfSome result (λ r. end_of r.now ≤ SEGMENTS_END) }
 {
     regions.iter().find(|region| region.has_code(pc))
 }

@@ -65,6 +65,20 @@ pub enum Entry {
     Done { party: u8, plugin: u8 },
 }
 
+/// One item of a journal's log, in which a Turn of n is n steps. The last two stand in no journal: the state that the
+/// harts share keeps them between the others. No value of it is made.
+pub enum Item {
+    Step { hart: u8 },
+    Ordered { origin: Origin, order: Order },
+    GaveBack { hart: u8, plugin: u8 },
+    Left { hart: u8 },
+    Told { party: u8, plugin: u8 },
+    /// The hart took the plug-in's set out of the state.
+    Got { hart: u8, plugin: u8 },
+    /// The party took the plug-in's closing.
+    Took { party: u8, plugin: u8 },
+}
+
 /// An order and the total of steps at which it falls due.
 #[derive(Debug, PartialEq, Eq, Drop)]
 pub struct Timed {
@@ -88,6 +102,13 @@ impl Model for Plan {
     ghost view = { λ p. record { installs = p.installs.items; script = p.script.items } };
 
     ghost invariant = { λ p. IsPlan p.script.items };
+}
+
+/// Which harts have their start from the first: all of them, or hart 0 alone.
+#[derive(Clone, Copy, Debug, PartialEq, Eq)]
+pub enum Mode {
+    All,
+    First,
 }
 
 /// The state of a plug-in.

@@ -18,7 +18,7 @@ pub struct Filter {
     pub hi: u64,
     /// A bit for each class: alu 0, muldiv 1, load 2, store 3, branch 4, jump 5, atomic 6, system 7, illegal 8.
     pub classes: u16,
-    /// 1 for loads, 2 for stores, 3 for both.
+    /// A bit for each direction: 1 for loads, 2 for stores, 3 for both.
     pub rw: u8,
 }
 
@@ -95,6 +95,20 @@ pub enum Act {
     },
 }
 
+impl Act {
+    ghost use Rattle.flat_model.specs.Acts.{calls};
+
+    /// Whether the act calls a box.
+    pub fn calls(&self) -> bool
+        ensures calls { result ≡ calls self.now }
+    {
+        match self {
+            Act::Call { .. } | Act::Cond { .. } => true,
+            Act::Inline { .. } => false,
+        }
+    }
+}
+
 /// A subscription.
 #[derive(Clone, Copy, Debug, PartialEq, Eq)]
 pub struct Sub {
@@ -164,6 +178,16 @@ pub struct SetSpec {
 }
 
 impl SetSpec {
+    ghost use Rattle.flat_model.specs.Acts.{calling};
+
+    /// How many of its subscriptions call a box.
+    pub fn calling(&self) -> u32
+        ensures calling { result ≡ calling self.now.subs }
+    {
+        let subs = self.subs.as_slice();
+        subs.iter().filter(|sub| sub.act.calls()).count() as u32
+    }
+
     /// An equal set of its own.
     pub fn copied(&self, alloc: Global) -> Result<SetSpec, NoMemory>
         ensures { IfOk result (λ copy. copy ≡ self.now) }
@@ -183,4 +207,5 @@ pub struct Row {
     pub a: u64,
     pub b: u64,
     pub c: u64,
+    pub d: u64,
 }

@@ -1,5 +1,7 @@
 //! The answers that many crates share.
 
+ghost use Rattle.std.specs.Prelude.{◌≡◌};
+
 use std::alloc::{AllocError, AllocFailed};
 
 /// Memory ran out. It is the one answer that any call which takes memory may give at any time.
@@ -26,6 +28,10 @@ pub enum Refused<R> {
 }
 
 impl<R> From<NoMemory> for Refused<R> {
+    ghost use Rattle.flat_model.specs.declared.refusals.Refused.TheVariants as refused;
+
+    ghost from_gives = { λ _ refusal. refusal ≡ refused.NoMemory };
+
     fn from(_error: NoMemory) -> Refused<R> {
         Refused::NoMemory
     }
