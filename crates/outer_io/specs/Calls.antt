@@ -1,10 +1,6 @@
 -- Numbered calls, of which some are to fail.
-use Rattle.std.specs.Prelude.{ℕ, ◌+◌, ◌-◌, ◌^◌, ◌==◌, Bool, List, min}
+use Rattle.std.specs.Prelude.{ℕ, ◌==◌, Bool, List}
 use Rattle.std.specs.List.{list_any}
-
--- one more, of a u64 that stays at its greatest value
-abbrev pub next : ℕ → ℕ
-next n = min (n + 1) (2 ^ 64 - 1)
 
 -- the call with this number, from 1, is one of those that are to fail
 abbrev pub is_listed : List ℕ → ℕ → Bool

@@ -1,9 +1,17 @@
 -- Counts of faults, which are what a caller knows of a file or stream that fails.
-use Rattle.std.specs.Prelude.{ℕ, ◌+◌, ◌-◌, ◌^◌, ◌<◌, ◌≤◌, min}
+use Rattle.std.specs.Prelude.{◌≡◌, ℕ, ◌+◌, ◌-◌, ◌^◌, ◌<◌, ◌≤◌, min}
 
--- the count rose in the call: it is a u64 that stays at its greatest value
-abbrev pub Rose : ℕ → ℕ → Type 0
-Rose before now = min (before + 1) (2 ^ 64 - 1) ≤ now
+-- one more, of a u64 that stays at its greatest value
+abbrev pub next : ℕ → ℕ
+next n = min (n + 1) (2 ^ 64 - 1)
+
+-- the call met one fault, and no more
+abbrev pub Faulted : ℕ → ℕ → Type 0
+Faulted before now = now ≡ next before
+
+-- the call met no fault
+abbrev pub IsFaultless : ℕ → ℕ → Type 0
+IsFaultless before now = now ≡ before
 
 -- a count after a call, which is a u64 and never falls
 pub record IsCount (before now : ℕ) : Type 0 where

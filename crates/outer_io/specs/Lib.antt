@@ -2,4 +2,6 @@ pub mod Calls
 pub mod Counts
 pub mod Files
 pub mod Memory
+pub mod Pieces
+pub mod Real
 pub mod Sinks

@@ -6,15 +6,11 @@ use Rattle.std.specs.Prelude.{Option}
 use Rattle.std.specs.Option.{option_map}
 use Rattle.outer_io.specs.declared.calls.Calls.{Calls}
 use Rattle.outer_io.specs.declared.memory.MemFiles.{MemFiles}
-use Rattle.outer_io.specs.declared.memory.MemSink.{MemSink}
 
--- what a sink in memory holds
-abbrev pub sink_bytes : MemSink → List ℕ
-sink_bytes s = s.held.items
-
--- the calls of `put` on it
-abbrev pub puts_of : MemSink → Calls
-puts_of s = s.puts
+-- what a sink in memory shows: the pieces that were put, and the calls of `put`
+pub record MemSinkValue : Type 0 where
+  pub pieces : List (List ℕ)
+  pub puts : Calls
 
 -- what a name has in a map
 abbrev pub held_in : BTreeMap (String Global) (Vec ℕ Global) → List ℕ → Option (List ℕ)

@@ -1,15 +1,22 @@
--- What a sink holds after a `put`: `Some` of its bytes, or `None` where a sink does not tell them.
+-- What a sink holds after a `put`: `Some` of the pieces that were put, or `None` where a sink does not tell them.
 use Rattle.std.specs.Prelude.{◌≡◌, ℕ, List, ◌++◌, take}
 use Rattle.std.specs.Prelude.{Option}
+use Rattle.std.specs.List.{concat}
 use Rattle.std.specs.Option.{option_map}
-use Rattle.outer_io.specs.Counts.{Rose}
+use Rattle.outer_io.specs.Counts.{Faulted}
 
--- the contents, where told, gained these bytes at their end
-abbrev pub Gained : Option (List ℕ) → Option (List ℕ) → List ℕ → Type 0
-Gained before now bytes = now ≡ option_map (λ held. held ++ bytes) before
+-- the bytes that a sink holds, where told: its pieces one after the other
+abbrev pub bytes_of : Option (List (List ℕ)) → Option (List ℕ)
+bytes_of held = option_map concat held
 
--- the call met a fault, and the contents, where told, gained a prefix of the bytes
-pub record StoppedAtFault (before now : Option (List ℕ)) (bytes : List ℕ) (faults_before faults_now : ℕ) : Type 0 where
+-- the pieces, where told, gained these at their end
+abbrev pub Gained : Option (List (List ℕ)) → Option (List (List ℕ)) → List (List ℕ) → Type 0
+Gained before now pieces = now ≡ option_map (λ held. held ++ pieces) before
+
+-- the call met one fault, and the pieces, where told, gained those of a prefix of the text: `pieces_of` says
+-- in which pieces a text is put
+pub record StoppedAtFault (pieces_of : List ℕ → List (List ℕ)) (before now : Option (List (List ℕ)))
+    (text : List ℕ) (faults_before faults_now : ℕ) : Type 0 where
   pub taken : ℕ
-  pub gained : Gained before now (take taken bytes)
-  pub rose : Rose faults_before faults_now
+  pub gained : Gained before now (pieces_of (take taken text))
+  pub faulted : Faulted faults_before faults_now

@@ -1,7 +1,8 @@
 //! Calls that are counted, of which some are to fail.
 
 ghost use Rattle.std.specs.Prelude.{◌≡◌, []};
-ghost use Rattle.outer_io.specs.Calls.{next, is_listed};
+ghost use Rattle.outer_io.specs.Calls.{is_listed};
+ghost use Rattle.outer_io.specs.Counts.{next};
 
 use std::alloc::Global;
 

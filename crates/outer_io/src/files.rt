@@ -1,19 +1,19 @@
 //! Files that are read and written by name.
 
-ghost use Rattle.std.specs.Prelude.{◌≡◌, ℕ, Bool, List, IsTrue, MatchResult, OnErr, Some};
+ghost use Rattle.std.specs.Prelude.{◌≡◌, ℕ, Bool, List, IsTrue, MatchResult, OnOk, OnErr, Some};
 ghost use Rattle.std.specs.Prelude.{Option};
-ghost use Rattle.outer_io.specs.Counts.{IsCount, Rose};
+ghost use Rattle.outer_io.specs.Counts.{IsCount, IsFaultless, Faulted};
 
-use super::sinks::Failed;
+use crate::sinks::Failed;
 
 /// Why a file was not read.
 #[derive(Clone, Copy, Debug, PartialEq, Eq)]
 pub enum FileFault {
-    /// A fault, which the count of reads tells.
+    /// A fault, which the count of reads tells. It alone is one where contents are told.
     Failed,
     /// No such name is there.
     Missing,
-    /// The file has more bytes than the limit.
+    /// The file has more bytes than the limit. Where contents are not told, it is a fault too.
     TooLong,
     /// Memory ran out.
     NoMemory,
@@ -41,6 +41,7 @@ pub trait Files {
             (λ _. ReadsWhole (told self.old) (contents self.old name.now) limit into.old.items into.new.items)
             (λ fault. HasReadCause fault (told self.old) (contents self.old name.now) limit
             (read_faults self.old) (read_faults self.new)) }
+        ensures faultless { OnOk result (IsFaultless (read_faults self.old) (read_faults self.new)) }
         ensures refused { OnErr result (into.new.items ≡ into.old.items) }
         ensures count { IsCount (read_faults self.old) (read_faults self.new) }
         ensures writes { write_faults self.new ≡ write_faults self.old }
@@ -51,7 +52,8 @@ pub trait Files {
     fn write(&mut self, name: &str, bytes: &[u8]) -> Result<(), Failed>
         ensures cases { MatchResult result
             (λ _. IsTrue (told self.old) → contents self.new name.now ≡ Some bytes.now)
-            (λ _. Rose (write_faults self.old) (write_faults self.new)) }
+            (λ _. Faulted (write_faults self.old) (write_faults self.new)) }
+        ensures faultless { OnOk result (IsFaultless (write_faults self.old) (write_faults self.new)) }
         ensures others { OthersStay (told self.old) (contents self.old) (contents self.new) name.now }
         ensures count { IsCount (write_faults self.old) (write_faults self.new) }
         ensures reads { read_faults self.new ≡ read_faults self.old }

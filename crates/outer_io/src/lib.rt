@@ -7,8 +7,8 @@
 
 pub use files::{FileFault, Files};
 pub use memory::{MemFiles, MemSink};
-pub use real::{RealFiles, RealSink};
-pub use sinks::{Failed, Sink};
+pub use real::{RealFiles, RealSink, read_whole, write_whole};
+pub use sinks::{Failed, Sink, put_pieces};
 
 mod calls;
 mod files;

@@ -1,72 +1,113 @@
 //! Files and a sink in memory, for tests: the calls that are to fail are given by their numbers.
 
-ghost use Rattle.std.specs.Prelude.{◌≡◌, [], ◌++◌, ℕ, List, Bool, true, IsTrue, IsErr, IsErrOf, OnOk, OnErr, MatchResult, Some, None};
+ghost use Rattle.std.specs.Prelude.{◌≡◌, [], ◌∷◌, ◌++◌, ◌↔◌, ℕ, List, Bool, true, map, length, Some, None};
+ghost use Rattle.std.specs.Prelude.{IsTrue, IsErr, IsErrOf, OnOk, OnErr, MatchResult};
+ghost use Rattle.std.specs.List.{concat};
 ghost use Rattle.std.specs.Option.{option_copied};
 ghost use Rattle.std.specs.Prelude.{Option};
-ghost use Rattle.outer_io.specs.Calls.{next, is_listed};
-ghost use Rattle.outer_io.specs.Counts.{IsCount, Rose};
+ghost use Rattle.outer_io.specs.Calls.{is_listed};
+ghost use Rattle.outer_io.specs.Counts.{next, IsCount, IsFaultless, Faulted};
+ghost use Rattle.outer_io.specs.Pieces.{one_piece, split, AreLengthsOf};
 ghost use Rattle.outer_io.specs.Sinks.{Gained, StoppedAtFault};
 ghost use Rattle.outer_io.specs.Files.{ReadsWhole, HasReadCause, OthersStay};
-ghost use Rattle.outer_io.specs.Memory.{sink_bytes, puts_of, held_in, file_bytes, reads_of, writes_of};
+ghost use Rattle.outer_io.specs.Memory.{MemSinkValue, held_in, file_bytes, reads_of, writes_of};
 
-use super::calls::Calls;
-use super::files::{FileFault, Files};
-use super::sinks::{Failed, Sink};
+use crate::calls::Calls;
+use crate::files::{FileFault, Files};
+use crate::sinks::{Failed, Sink};
 use std::alloc::{AllocError, Global};
 use std::collections::BTreeMap;
+use std::marker::Model;
 
-/// A sink that keeps its bytes and tells them.
+/// A sink that keeps its bytes and tells its pieces.
 #[derive(Drop)]
 pub struct MemSink {
     held: Vec<u8>,
+    piece_lengths: Vec<usize>,
     puts: Calls,
+}
+
+impl Model for MemSink {
+    ghost Value = { MemSinkValue };
+
+    ghost view = { λ s. record { pieces = split s.piece_lengths.items s.held.items; puts = s.puts } };
+
+    ghost invariant = { λ s. AreLengthsOf s.piece_lengths.items s.held.items };
 }
 
 impl MemSink {
     /// A sink with no bytes. The calls of `put` with these numbers, from 1, fail.
     pub fn new(alloc: Global, puts: Vec<u64>) -> MemSink
-        ensures empty { sink_bytes result ≡ [] }
-        ensures calls { puts_of result ≡ record { to_fail = puts; made = 0; faults = 0 } }
+        ensures { result ≡ record { pieces = []; puts = record { to_fail = puts; made = 0; faults = 0 } } }
     {
         MemSink {
             held: Vec::new(alloc),
+            piece_lengths: Vec::new(alloc),
             puts: Calls::new(puts),
         }
     }
 
     /// What was put.
     pub fn bytes(&self) -> &[u8]
-        ensures { result.now ≡ sink_bytes self.now }
+        ensures { result.now ≡ concat self.now.pieces }
     {
         self.held.as_slice()
+    }
+
+    /// How many bytes each piece has.
+    pub fn piece_lengths(&self) -> &[usize]
+        ensures { result.now ≡ map (λ piece. length piece) self.now.pieces }
+    {
+        self.piece_lengths.as_slice()
     }
 }
 
 impl Sink for MemSink {
-    ghost faults = { λ s. (puts_of s).faults };
+    ghost faults = { λ s. s.puts.faults };
 
-    ghost contents = { λ s. Some (sink_bytes s) };
+    ghost pieces = { λ s. Some s.pieces };
 
     /// A call that is to fail, or that finds no memory, puts nothing.
     fn put(&mut self, bytes: &[u8]) -> Result<(), Failed>
         ensures cases { MatchResult result
-            (λ _. Gained (Some (sink_bytes self.old)) (Some (sink_bytes self.new)) bytes.now)
-            (λ _. StoppedAtFault (Some (sink_bytes self.old)) (Some (sink_bytes self.new)) bytes.now
-            (puts_of self.old).faults (puts_of self.new).faults) }
-        ensures count { IsCount (puts_of self.old).faults (puts_of self.new).faults }
-        ensures listed { IsTrue (is_listed (puts_of self.old).to_fail.items (next (puts_of self.old).made))
-            → IsErr result }
-        ensures failed { OnErr result (sink_bytes self.new ≡ sink_bytes self.old) }
-        ensures made { (puts_of self.new).made ≡ next (puts_of self.old).made }
-        ensures to_fail { (puts_of self.new).to_fail ≡ (puts_of self.old).to_fail }
+            (λ _. Gained (Some self.old.pieces) (Some self.new.pieces) (bytes.now ∷ []))
+            (λ _. StoppedAtFault one_piece (Some self.old.pieces) (Some self.new.pieces) bytes.now
+            self.old.puts.faults self.new.puts.faults) }
+        ensures faultless { OnOk result (IsFaultless self.old.puts.faults self.new.puts.faults) }
+        ensures count { IsCount self.old.puts.faults self.new.puts.faults }
+        ensures listed { IsTrue (is_listed self.old.puts.to_fail.items (next self.old.puts.made)) → IsErr result }
+        ensures failed { OnErr result (self.new.pieces ≡ self.old.pieces) }
+        ensures made { self.new.puts.made ≡ next self.old.puts.made }
+        ensures to_fail { self.new.puts.to_fail ≡ self.old.puts.to_fail }
     {
         let _faults = self.puts.faults;
-        if self.puts.next_is_to_fail() || self.held.extend_from_slice(bytes).is_err() {
+        if self.puts.next_is_to_fail()
+            || append_piece(&mut self.held, &mut self.piece_lengths, bytes).is_err()
+        {
             self.puts.fault();
             return Err(Failed);
         }
         Ok(())
     }
+}
+
+// Appends the bytes and their number.
+fn append_piece(
+    held: &mut Vec<u8>,
+    piece_lengths: &mut Vec<usize>,
+    bytes: &[u8],
+) -> Result<(), AllocError>
+    ensures bytes { OnOk result (held.new.items ≡ held.old.items ++ bytes.now) }
+    ensures number { OnOk result (piece_lengths.new.items ≡ piece_lengths.old.items ++ length bytes.now ∷ []) }
+    ensures same_bytes { OnErr result (held.new.items ≡ held.old.items) }
+    ensures same_lengths { OnErr result (piece_lengths.new.items ≡ piece_lengths.old.items) }
+{
+    piece_lengths.push(bytes.len())?;
+    if let Err(error) = held.extend_from_slice(bytes) {
+        piece_lengths.pop();
+        return Err(error);
+    }
+    Ok(())
 }
 
 /// Files in memory, which tell their contents.
@@ -134,13 +175,14 @@ impl Files for MemFiles {
             (λ _. ReadsWhole true (file_bytes self.old name.now) limit into.old.items into.new.items)
             (λ fault. HasReadCause fault true (file_bytes self.old name.now) limit
             (reads_of self.old).faults (reads_of self.new).faults) }
+        ensures faultless { OnOk result (IsFaultless (reads_of self.old).faults (reads_of self.new).faults) }
         ensures refused { OnErr result (into.new.items ≡ into.old.items) }
         ensures count { IsCount (reads_of self.old).faults (reads_of self.new).faults }
         ensures writes { (writes_of self.new).faults ≡ (writes_of self.old).faults }
         ensures still_told { true ≡ true }
         ensures unchanged { file_bytes self.new ≡ file_bytes self.old }
         ensures listed { IsTrue (is_listed (reads_of self.old).to_fail.items (next (reads_of self.old).made))
-            → IsErrOf result FileFault.Failed }
+            ↔ IsErrOf result FileFault.Failed }
         ensures made { (reads_of self.new).made ≡ next (reads_of self.old).made }
         ensures to_fail { (reads_of self.new).to_fail ≡ (reads_of self.old).to_fail }
         ensures same_writes { writes_of self.new ≡ writes_of self.old }
@@ -166,7 +208,8 @@ impl Files for MemFiles {
     fn write(&mut self, name: &str, bytes: &[u8]) -> Result<(), Failed>
         ensures cases { MatchResult result
             (λ _. IsTrue true → file_bytes self.new name.now ≡ Some bytes.now)
-            (λ _. Rose (writes_of self.old).faults (writes_of self.new).faults) }
+            (λ _. Faulted (writes_of self.old).faults (writes_of self.new).faults) }
+        ensures faultless { OnOk result (IsFaultless (writes_of self.old).faults (writes_of self.new).faults) }
         ensures others { OthersStay true (file_bytes self.old) (file_bytes self.new) name.now }
         ensures count { IsCount (writes_of self.old).faults (writes_of self.new).faults }
         ensures reads { (reads_of self.new).faults ≡ (reads_of self.old).faults }
@@ -209,6 +252,7 @@ fn put_file(
 #[cfg(test)]
 mod tests {
     use super::*;
+    use crate::sinks::put_pieces;
     use std::test::Fail;
 
     fn numbers(alloc: Global, list: &[u64]) -> Result<Vec<u64>, AllocError> {
@@ -216,31 +260,54 @@ mod tests {
     }
 
     #[test]
-    fn a_sink_fails_at_its_numbered_calls(rt: HostRuntime) -> Result<(), Fail> {
-        let mut sink = MemSink::new(rt.alloc(), numbers(rt.alloc(), &[2])?);
+    fn a_sink_fails_at_its_listed_calls_and_tells_its_pieces(rt: HostRuntime) -> Result<(), Fail> {
+        let mut sink = MemSink::new(rt.alloc(), numbers(rt.alloc(), &[2, 5])?);
         assert_eq!(rt; sink.put(b"one"), Ok(()));
         assert_eq!(rt; sink.put(b"two"), Err(Failed));
+        assert_eq!(rt; sink.put(b""), Ok(()));
         assert_eq!(rt; sink.put(b"three"), Ok(()));
+        assert_eq!(rt; sink.put(b"five"), Err(Failed));
         assert_eq!(rt; sink.bytes(), b"onethree".as_slice());
+        assert_eq!(rt; sink.piece_lengths(), [3, 0, 5].as_slice());
+        assert_eq!(rt; sink.puts.faults, 2);
+        Ok(())
+    }
+
+    #[test]
+    fn a_text_is_put_in_pieces_up_to_a_fault(rt: HostRuntime) -> Result<(), Fail> {
+        let mut sink = MemSink::new(rt.alloc(), numbers(rt.alloc(), &[6])?);
+        assert_eq!(rt; put_pieces(&mut sink, 3, b"abcdefgh"), Ok(()));
+        assert_eq!(rt; sink.piece_lengths(), [3, 3, 2].as_slice());
+        assert_eq!(rt; put_pieces(&mut sink, 3, b""), Ok(()));
+        assert_eq!(rt; put_pieces(&mut sink, 3, b"ABCDEFGHIJ"), Err(Failed));
+        assert_eq!(rt; sink.piece_lengths(), [3, 3, 2, 3, 3].as_slice());
+        assert_eq!(rt; sink.bytes(), b"abcdefghABCDEF".as_slice());
         assert_eq!(rt; sink.puts.faults, 1);
         Ok(())
     }
 
     #[test]
-    fn files_answer_by_what_is_there(rt: HostRuntime) -> Result<(), Fail> {
+    fn files_fail_at_listed_calls_and_else_answer_by_what_is_there(
+        rt: HostRuntime,
+    ) -> Result<(), Fail> {
         let alloc = rt.alloc();
-        let mut files = MemFiles::new(alloc, numbers(alloc, &[4])?, numbers(alloc, &[1])?);
+        let mut files = MemFiles::new(alloc, numbers(alloc, &[4, 6])?, numbers(alloc, &[1])?);
         let mut into = Vec::new(alloc);
         assert_eq!(rt; files.add("F", b"abc"), Ok(()));
         assert_eq!(rt; files.read("G", 3, &mut into), Err(FileFault::Missing));
         assert_eq!(rt; files.read("F", 2, &mut into), Err(FileFault::TooLong));
         assert_eq!(rt; files.read("F", 3, &mut into), Ok(()));
+        assert_eq!(rt; files.reads.faults, 0);
         assert_eq!(rt; files.read("F", 3, &mut into), Err(FileFault::Failed));
-        assert_eq!(rt; into.as_slice(), b"abc".as_slice());
+        assert_eq!(rt; files.read("F", 4, &mut into), Ok(()));
+        assert_eq!(rt; files.read("G", 3, &mut into), Err(FileFault::Failed));
+        assert_eq!(rt; files.reads.faults, 2);
+        assert_eq!(rt; into.as_slice(), b"abcabc".as_slice());
         assert_eq!(rt; files.write("F", b"x"), Err(Failed));
         assert_eq!(rt; files.contents("F"), Some(b"abc".as_slice()));
         assert_eq!(rt; files.write("F", b"x"), Ok(()));
         assert_eq!(rt; files.contents("F"), Some(b"x".as_slice()));
+        assert_eq!(rt; files.writes.faults, 1);
         Ok(())
     }
 }

@@ -1,11 +1,17 @@
 //! Files and streams of the system, over std. They tell no contents.
 
-ghost use Rattle.std.specs.Prelude.{◌≡◌, ◌≤◌, ◌+◌, ◌-◌, ◌^◌, None, false, OnOk, OnErr};
+ghost use Rattle.std.specs.Prelude.{◌≡◌, ◌≢◌, ◌↔◌, ◌<◌, ◌∷◌, [], ℕ, None, false, is_some, length};
+ghost use Rattle.std.specs.Prelude.{MatchResult, IfOk, IfErr, IfSome, IsOkAnd, OnOk, OnErr, IsErr};
 ghost use Rattle.std.specs.Io.KnownBytes.{Appends};
-ghost use Rattle.outer_io.specs.Files.{ReadsWhole};
+ghost use Rattle.std.specs.IoError.{error_kind};
+ghost use Rattle.outer_io.specs.Counts.{IsCount, IsFaultless};
+ghost use Rattle.outer_io.specs.Files.{ReadsWhole, HasReadCause};
+ghost use Rattle.outer_io.specs.Pieces.{one_piece};
+ghost use Rattle.outer_io.specs.Real.{stream_of, faults_of, read_faults_of, write_faults_of};
+ghost use Rattle.outer_io.specs.Sinks.{Gained, StoppedAtFault};
 
-use super::files::{FileFault, Files};
-use super::sinks::{Failed, Sink};
+use crate::files::{FileFault, Files};
+use crate::sinks::{Failed, Sink};
 use std::io::{ErrorKind, Read, Write};
 use std::{fs, io, rt};
 
@@ -18,17 +24,29 @@ pub struct RealSink<W> {
 
 impl<W: Write> RealSink<W> {
     /// A sink that has met no fault.
-    pub fn new(stream: W) -> RealSink<W> {
+    pub fn new(stream: W) -> RealSink<W>
+        ensures stream { stream_of result ≡ stream }
+        ensures faultless { faults_of result ≡ 0 }
+    {
         RealSink { stream, faults: 0 }
     }
 }
 
 impl<W: Write> Sink for RealSink<W> {
-    ghost faults = { λ s. s.faults };
+    ghost faults = { λ s. faults_of s };
 
-    ghost contents = { λ _. None };
+    ghost pieces = { λ _. None };
 
-    fn put(&mut self, bytes: &[u8]) -> Result<(), Failed> {
+    fn put(&mut self, bytes: &[u8]) -> Result<(), Failed>
+        ensures cases { MatchResult result
+            (λ _. Gained None None (bytes.now ∷ []))
+            (λ _. StoppedAtFault one_piece None None bytes.now (faults_of self.old) (faults_of self.new)) }
+        ensures faultless { OnOk result (IsFaultless (faults_of self.old) (faults_of self.new)) }
+        ensures count { IsCount (faults_of self.old) (faults_of self.new) }
+
+        // What the stream holds, where it tells that.
+        ensures stream { OnOk result (Appends (W.contents (stream_of self.old)) (W.contents (stream_of self.new)) bytes.now) }
+    {
         let faults = self.faults;
         if write_whole(&mut self.stream, bytes).is_err() {
             self.faults = faults.saturating_add(1);
@@ -48,7 +66,10 @@ pub struct RealFiles<'r, R> {
 
 impl<'r, R: rt::Files> RealFiles<'r, R> {
     /// Files that have met no fault.
-    pub fn new(rt: &'r R) -> RealFiles<'r, R> {
+    pub fn new(rt: &'r R) -> RealFiles<'r, R>
+        ensures reads { read_faults_of result ≡ 0 }
+        ensures writes { write_faults_of result ≡ 0 }
+    {
         RealFiles {
             rt,
             read_faults: 0,
@@ -58,33 +79,23 @@ impl<'r, R: rt::Files> RealFiles<'r, R> {
 }
 
 impl<R: rt::Files> Files for RealFiles<'_, R> {
-    ghost read_faults = { λ f. f.read_faults };
+    ghost read_faults = { λ f. read_faults_of f };
 
-    ghost write_faults = { λ f. f.write_faults };
+    ghost write_faults = { λ f. write_faults_of f };
 
     ghost told = { λ _. false };
 
     ghost contents = { λ _ _. None };
 
     fn read(&mut self, name: &str, limit: usize, into: &mut Vec<u8>) -> Result<(), FileFault> {
-        let faults = self.read_faults;
-        match read_file(self.rt, name, limit, into) {
-            Ok(()) => Ok(()),
-            Err(FileFault::NoMemory) => Err(FileFault::NoMemory),
-            Err(FileFault::TooLong) => {
-                self.read_faults = faults.saturating_add(1);
-                Err(FileFault::TooLong)
-            }
-            Err(_) => {
-                self.read_faults = faults.saturating_add(1);
-                Err(FileFault::Failed)
-            }
-        }
+        let answer = read_file(fs::open(self.rt, name), limit, into);
+        self.read_faults = faults_after_read(self.read_faults, &answer);
+        answer
     }
 
     fn write(&mut self, name: &str, bytes: &[u8]) -> Result<(), Failed> {
         let faults = self.write_faults;
-        if write_file(self.rt, name, bytes).is_err() {
+        if write_file(fs::create(self.rt, name), bytes).is_err() {
             self.write_faults = faults.saturating_add(1);
             return Err(Failed);
         }
@@ -92,23 +103,53 @@ impl<R: rt::Files> Files for RealFiles<'_, R> {
     }
 }
 
-// Reads no more than `limit` bytes and one.
-fn read_file<R: rt::Files>(
-    rt: &R,
-    name: &str,
+// How many reads met a fault, once one gave this answer: where no contents are told, all errors but want of memory are faults.
+fn faults_after_read(faults: u64, answer: &Result<(), FileFault>) -> u64
+    requires never_missing { answer.now ≢ Err FileFault.Missing }
+    ensures faultless { OnOk answer.now (IsFaultless faults result) }
+    ensures refused { (limit : ℕ) → IfErr answer.now (λ fault. HasReadCause fault false None limit faults result) }
+    ensures count { IsCount faults result }
+{
+    match answer {
+        Ok(()) | Err(FileFault::NoMemory) => faults,
+        Err(_) => faults.saturating_add(1),
+    }
+}
+
+// Reads a file that was opened. One that was not is a fault, as any other error but want of memory.
+fn read_file<R: Read + Drop>(
+    opened: io::Result<R>,
     limit: usize,
     into: &mut Vec<u8>,
 ) -> Result<(), FileFault>
-    ensures ok { OnOk result (ReadsWhole false None limit into.old.items into.new.items) }
+    ensures ok { OnOk result (IsOkAnd opened
+        (λ file. ReadsWhole (is_some (R.remaining file)) (R.remaining file) limit into.old.items into.new.items)) }
+    ensures too_long { result ≡ Err FileFault.TooLong
+        → IsOkAnd opened (λ file. IfSome (R.remaining file) (λ bytes. limit < length bytes)) }
     ensures refused { OnErr result (into.new.items ≡ into.old.items) }
+    ensures never_missing { result ≢ Err FileFault.Missing }
 {
-    let file = match fs::open(rt, name) {
-        Ok(file) => file,
-        Err(error) => return Err(fault_of(&error)),
-    };
+    match opened {
+        Ok(file) => read_whole(file, limit, into),
+        Err(error) => Err(fault_of(&error)),
+    }
+}
+
+/// Appends all that the reader has left, where that is at most `limit` bytes. An error of the reader is `NoMemory` or `Failed`.
+pub fn read_whole<R: Read + Drop>(
+    from: R,
+    limit: usize,
+    into: &mut Vec<u8>,
+) -> Result<(), FileFault>
+    ensures ok { OnOk result
+        (ReadsWhole (is_some (R.remaining from)) (R.remaining from) limit into.old.items into.new.items) }
+    ensures too_long { result ≡ Err FileFault.TooLong → IfSome (R.remaining from) (λ bytes. limit < length bytes) }
+    ensures refused { OnErr result (into.new.items ≡ into.old.items) }
+    ensures never_missing { result ≢ Err FileFault.Missing }
+{
     let before = into.len();
     let most = (limit as u64).saturating_add(1);
-    match file.take(most).read_to_end(into) {
+    match from.take(most).read_to_end(into) {
         Ok(taken) if taken <= limit => Ok(()),
         Ok(_) => {
             into.truncate(before);
@@ -121,16 +162,24 @@ fn read_file<R: rt::Files>(
     }
 }
 
-fn fault_of(error: &io::Error) -> FileFault {
+fn fault_of(error: &io::Error) -> FileFault
+    ensures memory { (result ≡ FileFault.NoMemory) ↔ (error_kind error.now ≡ ErrorKind.OutOfMemory) }
+    ensures other { error_kind error.now ≢ ErrorKind.OutOfMemory → result ≡ FileFault.Failed }
+{
     match error.kind() {
         ErrorKind::OutOfMemory => FileFault::NoMemory,
         _ => FileFault::Failed,
     }
 }
 
-fn write_file<R: rt::Files>(rt: &R, name: &str, bytes: &[u8]) -> io::Result<()> {
-    let mut file = fs::create(rt, name)?;
-    write_whole(&mut file, bytes)
+// Writes the bytes to a file that was created, and hands it back.
+fn write_file<W: Write + Drop>(created: io::Result<W>, bytes: &[u8]) -> io::Result<W>
+    ensures ok { IfOk result (λ written. IfOk created (λ file. Appends (W.contents file) (W.contents written) bytes.now)) }
+    ensures created { OnErr created (IsErr result) }
+{
+    let mut file = created?;
+    write_whole(&mut file, bytes)?;
+    Ok(file)
 }
 
 /// Writes the whole piece and flushes it. A write that takes nothing of a piece that is not empty is an error.
@@ -147,11 +196,12 @@ mod tests {
     use std::alloc::Global;
     use std::test::Fail;
 
-    // Takes at most two bytes at a time, and nothing past its room.
+    // Takes at most two bytes at a time, and nothing past its room. It counts the calls of `flush`.
     #[derive(Drop)]
     struct Grudging {
         held: Vec<u8>,
         room: usize,
+        flushes: u64,
     }
 
     impl Write for Grudging {
@@ -163,24 +213,81 @@ mod tests {
         }
 
         fn flush(&mut self) -> io::Result<()> {
+            self.flushes = self.flushes.saturating_add(1);
             Ok(())
         }
     }
 
     fn sink(alloc: Global, room: usize) -> RealSink<Grudging> {
         let held = Vec::new(alloc);
-        RealSink::new(Grudging { held, room })
+        RealSink::new(Grudging {
+            held,
+            room,
+            flushes: 0,
+        })
+    }
+
+    // Gives three bytes one at a time, and then fails with this kind.
+    #[derive(Drop)]
+    struct Faltering {
+        left: u8,
+        fails_with: ErrorKind,
+    }
+
+    impl Read for Faltering {
+        fn read(&mut self, buf: &mut [u8]) -> io::Result<usize> {
+            if buf.is_empty() {
+                return Ok(0);
+            }
+            if self.left == 0 {
+                return Err(io::Error::from(self.fails_with));
+            }
+            self.left -= 1;
+            buf[0] = b'x';
+            Ok(1)
+        }
+    }
+
+    fn stops_with(fails_with: ErrorKind) -> Faltering {
+        Faltering {
+            left: 3,
+            fails_with,
+        }
     }
 
     #[test]
-    fn a_real_sink_writes_whole_pieces_or_counts_a_fault(rt: HostRuntime) -> Result<(), Fail> {
+    fn a_real_sink_writes_and_flushes_whole_pieces_or_counts_a_fault(
+        rt: HostRuntime,
+    ) -> Result<(), Fail> {
         let mut ample = sink(rt.alloc(), 9);
         assert_eq!(rt; ample.put(b"whole"), Ok(()));
+        assert_eq!(rt; ample.stream.flushes, 1);
+        assert_eq!(rt; ample.put(b""), Ok(()));
+        assert_eq!(rt; ample.stream.flushes, 2);
         assert_eq!(rt; ample.stream.held.as_slice(), b"whole".as_slice());
         assert_eq!(rt; ample.faults, 0);
         let mut narrow = sink(rt.alloc(), 3);
         assert_eq!(rt; narrow.put(b"whole"), Err(Failed));
         assert_eq!(rt; narrow.faults, 1);
+        Ok(())
+    }
+
+    #[test]
+    fn a_reader_that_fails_in_mid_stream_or_has_too_much_leaves_nothing(
+        rt: HostRuntime,
+    ) -> Result<(), Fail> {
+        let mut into = Vec::from_slice(rt.alloc(), b"a")?;
+        let cut = read_whole(stops_with(ErrorKind::BrokenPipe), 9, &mut into);
+        assert_eq!(rt; cut, Err(FileFault::Failed));
+        let no_memory = read_whole(stops_with(ErrorKind::OutOfMemory), 9, &mut into);
+        assert_eq!(rt; no_memory, Err(FileFault::NoMemory));
+        assert_eq!(rt;
+            read_whole(b"five!".as_slice(), 4, &mut into),
+            Err(FileFault::TooLong)
+        );
+        assert_eq!(rt; into.as_slice(), b"a".as_slice());
+        assert_eq!(rt; read_whole(b"five!".as_slice(), 5, &mut into), Ok(()));
+        assert_eq!(rt; into.as_slice(), b"afive!".as_slice());
         Ok(())
     }
 
