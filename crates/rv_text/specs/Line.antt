@@ -1,5 +1,5 @@
 -- The text of an instruction, and the line that `disas` prints for a word.
-use Rattle.std.specs.Prelude.{◌≡◌, ℕ, ℤ, List, [], ◌++◌, Bool, nat_lt, if◌then◌else◌, codes, decimal}
+use Rattle.std.specs.Prelude.{◌≡◌, ℕ, ℤ, List, [], ◌++◌, Bool, if◌then◌else◌, codes, decimal}
 use Rattle.std.specs.Fmt.{signed_decimal}
 use Rattle.std.specs.Option.{option_map_or}
 use Rattle.flat_model.specs.declared.instructions.BranchOp.{BranchOp}
@@ -9,25 +9,21 @@ use Rattle.flat_model.specs.declared.instructions.LoadOp.TheVariants.{Lb, Lh, Lw
 use Rattle.flat_model.specs.declared.instructions.StoreOp.{StoreOp}
 use Rattle.flat_model.specs.declared.instructions.StoreOp.TheVariants.{Sb, Sh, Sw, Sd}
 use Rattle.flat_model.specs.declared.instructions.ImmOp.{ImmOp}
-use Rattle.flat_model.specs.declared.instructions.ImmOp.TheVariants.{Addi, Slti, Sltiu, Xori, Ori, Andi, Slli, Srli, Srai, Addiw, Slliw, Srliw, Sraiw}
+use Rattle.flat_model.specs.declared.instructions.ImmOp.TheVariants.{Addi, Slti, Sltiu, Xori, Ori, Andi, Slli, Srli, Srai, Addiw, Slliw}
+use Rattle.flat_model.specs.declared.instructions.ImmOp.TheVariants.{Srliw, Sraiw}
 use Rattle.flat_model.specs.declared.instructions.RegOp.{RegOp}
-use Rattle.flat_model.specs.declared.instructions.RegOp.TheVariants.{Add, Sub, Sll, Slt, Sltu, Xor, Srl, Sra, Or, And, Mul, Mulh, Mulhsu, Mulhu, Div, Divu, Rem, Remu, Addw, Subw, Sllw, Srlw, Sraw, Mulw, Divw, Divuw, Remw, Remuw}
+use Rattle.flat_model.specs.declared.instructions.RegOp.TheVariants.{Add, Sub, Sll, Slt, Sltu, Xor, Srl, Sra, Or, And, Mul, Mulh}
+use Rattle.flat_model.specs.declared.instructions.RegOp.TheVariants.{Mulhsu, Mulhu, Div, Divu, Rem, Remu, Addw, Subw, Sllw, Srlw, Sraw}
+use Rattle.flat_model.specs.declared.instructions.RegOp.TheVariants.{Mulw, Divw, Divuw, Remw, Remuw}
 use Rattle.flat_model.specs.declared.instructions.AtomicOp.{AtomicOp}
-use Rattle.flat_model.specs.declared.instructions.AtomicOp.TheVariants.{Lr, Sc, Swap, Add as AmoAdd, Xor as AmoXor, And as AmoAnd, Or as AmoOr, Min, Max, Minu, Maxu}
+use Rattle.flat_model.specs.declared.instructions.AtomicOp.TheVariants.{Lr, Sc, Swap, Add as AmoAdd, Xor as AmoXor, And as AmoAnd}
+use Rattle.flat_model.specs.declared.instructions.AtomicOp.TheVariants.{Or as AmoOr, Min, Max, Minu, Maxu}
 use Rattle.flat_model.specs.declared.instructions.Ins.{Ins}
-use Rattle.flat_model.specs.declared.instructions.Ins.TheVariants.{Lui, Auipc, Jal, Jalr, Branch, Load, Store, Imm, Reg, Atomic, Fence, FenceI, Ecall, Ebreak}
+use Rattle.flat_model.specs.declared.instructions.Ins.TheVariants.{Lui, Auipc, Jal, Jalr, Branch, Load, Store, Imm, Reg, Atomic, Fence}
+use Rattle.flat_model.specs.declared.instructions.Ins.TheVariants.{FenceI, Ecall, Ebreak}
 use Rattle.flat_model.specs.Instruction.{decoded}
 use Rattle.flat_model.specs.Texts.{hex}
-
--- Numbers.
-
--- how many hexadecimal digits a number of 20 bits has
-abbrev pub top_len : ℕ → ℕ
-top_len top =
-    if nat_lt top 0x10 then 1 else
-    if nat_lt top 0x100 then 2 else
-    if nat_lt top 0x1000 then 3 else
-    if nat_lt top 0x10000 then 4 else 5
+use Rattle.number_text.specs.ShortHex.{short_hex}
 
 abbrev pub register : ℕ → List ℕ
 register n = codes "x" ++ decimal n
@@ -126,7 +122,7 @@ order_suffix aq rl =
 
 -- `x5, 0x20`
 abbrev pub top_operands : ℕ → ℕ → List ℕ
-top_operands rd top = register rd ++ (codes ", 0x" ++ hex (top_len top) top)
+top_operands rd top = register rd ++ (codes ", 0x" ++ short_hex top)
 
 -- `x0, 4`
 abbrev pub offset_operands : ℕ → ℤ → List ℕ

@@ -5,7 +5,6 @@ pub use lines::{hex, line};
 
 mod lines;
 mod names;
-mod numbers;
 mod operands;
 #[cfg(test)]
 mod tests;

@@ -7,11 +7,11 @@ ghost use Rattle.rv_text.specs.Line.{text_of, head_of, atomic_head, operands_of,
 use crate::names::{
     atomic_name, branch_name, imm_name, load_name, order_suffix, reg_name, store_name, width_suffix,
 };
-use crate::numbers::{put, put_hex};
 use crate::operands::{
     put_atomic, put_fence, put_memory, put_offset, put_registers, put_top, put_with_number,
 };
 use flat_model::{AtomicOp, Ins, NoMemory};
+use number_text::{put_hex, put_text};
 use rv_decode::decode;
 
 /// Puts the last `len` hexadecimal digits of `n` at the end of `out`, at most 16, in lower case and with leading zeros.
@@ -21,12 +21,7 @@ pub fn hex(n: u64, len: u32, out: &mut Vec<u8>) -> Result<(), NoMemory>
     ensures ok { OnOk result (out.new.items ≡ out.old.items ++ hex len n) }
     ensures err { OnErr result (out.new.items ≡ out.old.items) }
 {
-    let len_before = out.len();
-    let digits = put_hex(out, n, len);
-    if digits.is_err() {
-        out.truncate(len_before);
-    }
-    digits
+    put_hex(out, n, len)
 }
 
 /// Puts the line of the word at `pc` at the end of `out`: the address, the word and its instruction's text.
@@ -48,11 +43,11 @@ fn put_line(out: &mut Vec<u8>, pc: u64, word: u32) -> Result<(), NoMemory>
     ensures err { OnErr result (Extends out.old.items out.new.items) }
 {
     put_hex(out, pc, 16)?;
-    put(out, " ")?;
+    put_text(out, " ")?;
     put_hex(out, u64::from(word), 8)?;
-    put(out, " ")?;
+    put_text(out, " ")?;
     put_word(out, word)?;
-    put(out, "\n")
+    put_text(out, "\n")
 }
 
 fn put_word(out: &mut Vec<u8>, word: u32) -> Result<(), NoMemory>
@@ -60,7 +55,7 @@ fn put_word(out: &mut Vec<u8>, word: u32) -> Result<(), NoMemory>
     ensures err { OnErr result (Extends out.old.items out.new.items) }
 {
     match decode(word) {
-        Some(ins) => put_text(out, &ins),
+        Some(ins) => put_instruction(out, &ins),
         None => put_raw(out, word),
     }
 }
@@ -70,7 +65,7 @@ fn put_raw(out: &mut Vec<u8>, word: u32) -> Result<(), NoMemory>
     ensures ok { OnOk result (out.new.items ≡ out.old.items ++ raw_text word) }
     ensures err { OnErr result (Extends out.old.items out.new.items) }
 {
-    put(out, ".word 0x")?;
+    put_text(out, ".word 0x")?;
     put_hex(out, u64::from(word), 8)
 }
 
@@ -79,11 +74,12 @@ fn put_name(out: &mut Vec<u8>, name: &str) -> Result<(), NoMemory>
     ensures ok { OnOk result (out.new.items ≡ out.old.items ++ (name.now ++ codes " ")) }
     ensures err { OnErr result (Extends out.old.items out.new.items) }
 {
-    put(out, name)?;
-    put(out, " ")
+    put_text(out, name)?;
+    put_text(out, " ")
 }
 
-fn put_text(out: &mut Vec<u8>, ins: &Ins) -> Result<(), NoMemory>
+/// The text of an instruction of the table.
+fn put_instruction(out: &mut Vec<u8>, ins: &Ins) -> Result<(), NoMemory>
     ensures ok { OnOk result (out.new.items ≡ out.old.items ++ text_of ins.now) }
     ensures err { OnErr result (Extends out.old.items out.new.items) }
 {
@@ -97,10 +93,10 @@ fn put_head(out: &mut Vec<u8>, ins: &Ins) -> Result<(), NoMemory>
     ensures err { OnErr result (Extends out.old.items out.new.items) }
 {
     match *ins {
-        Ins::Lui { .. } => put(out, "lui "),
-        Ins::Auipc { .. } => put(out, "auipc "),
-        Ins::Jal { .. } => put(out, "jal "),
-        Ins::Jalr { .. } => put(out, "jalr "),
+        Ins::Lui { .. } => put_text(out, "lui "),
+        Ins::Auipc { .. } => put_text(out, "auipc "),
+        Ins::Jal { .. } => put_text(out, "jal "),
+        Ins::Jalr { .. } => put_text(out, "jalr "),
         Ins::Branch { op, .. } => put_name(out, branch_name(op)),
         Ins::Load { op, .. } => put_name(out, load_name(op)),
         Ins::Store { op, .. } => put_name(out, store_name(op)),
@@ -113,10 +109,10 @@ fn put_head(out: &mut Vec<u8>, ins: &Ins) -> Result<(), NoMemory>
             rl,
             ..
         } => put_atomic_name(out, op, wide, aq, rl),
-        Ins::Fence { .. } => put(out, "fence "),
-        Ins::FenceI { .. } => put(out, "fence.i"),
-        Ins::Ecall => put(out, "ecall"),
-        Ins::Ebreak => put(out, "ebreak"),
+        Ins::Fence { .. } => put_text(out, "fence "),
+        Ins::FenceI { .. } => put_text(out, "fence.i"),
+        Ins::Ecall => put_text(out, "ecall"),
+        Ins::Ebreak => put_text(out, "ebreak"),
     }
 }
 
@@ -130,8 +126,8 @@ fn put_atomic_name(
     ensures ok { OnOk result (out.new.items ≡ out.old.items ++ atomic_head op wide aq rl) }
     ensures err { OnErr result (Extends out.old.items out.new.items) }
 {
-    put(out, atomic_name(op))?;
-    put(out, width_suffix(wide))?;
+    put_text(out, atomic_name(op))?;
+    put_text(out, width_suffix(wide))?;
     put_name(out, order_suffix(aq, rl))
 }
 

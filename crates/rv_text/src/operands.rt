@@ -1,18 +1,28 @@
 //! Operands as text, put at the end of a line.
 
 ghost use Rattle.std.specs.Prelude.{◌≡◌, ◌++◌, ◌<◌, OnOk, OnErr};
-ghost use Rattle.rv_text.specs.Line.{top_operands, offset_operands, memory_operands, number_operands, register_operands, address_operands, source_operands, atomic_operands, fence_operands, Extends};
+ghost use Rattle.rv_text.specs.Line.{register, top_operands, offset_operands, memory_operands, number_operands, register_operands};
+ghost use Rattle.rv_text.specs.Line.{address_operands, source_operands, atomic_operands, fence_operands, Extends};
 
-use crate::numbers::{put, put_hex, put_number, put_register, put_signed, top_len};
 use flat_model::{AtomicOp, NoMemory};
+use number_text::{put_decimal, put_short_hex, put_signed, put_text};
+
+/// The name of a register.
+fn put_register(out: &mut Vec<u8>, n: u8) -> Result<(), NoMemory>
+    ensures ok { OnOk result (out.new.items ≡ out.old.items ++ register n) }
+    ensures err { OnErr result (Extends out.old.items out.new.items) }
+{
+    put_text(out, "x")?;
+    put_decimal(out, u64::from(n))
+}
 
 pub(crate) fn put_top(out: &mut Vec<u8>, rd: u8, top: u32) -> Result<(), NoMemory>
     ensures ok { OnOk result (out.new.items ≡ out.old.items ++ top_operands rd top) }
     ensures err { OnErr result (Extends out.old.items out.new.items) }
 {
     put_register(out, rd)?;
-    put(out, ", 0x")?;
-    put_hex(out, u64::from(top), top_len(top))
+    put_text(out, ", 0x")?;
+    put_short_hex(out, u64::from(top))
 }
 
 pub(crate) fn put_offset(out: &mut Vec<u8>, rd: u8, off: i32) -> Result<(), NoMemory>
@@ -20,8 +30,8 @@ pub(crate) fn put_offset(out: &mut Vec<u8>, rd: u8, off: i32) -> Result<(), NoMe
     ensures err { OnErr result (Extends out.old.items out.new.items) }
 {
     put_register(out, rd)?;
-    put(out, ", ")?;
-    put_signed(out, off)
+    put_text(out, ", ")?;
+    put_signed(out, i64::from(off))
 }
 
 pub(crate) fn put_memory(
@@ -34,11 +44,11 @@ pub(crate) fn put_memory(
     ensures err { OnErr result (Extends out.old.items out.new.items) }
 {
     put_register(out, register)?;
-    put(out, ", ")?;
-    put_signed(out, off)?;
-    put(out, "(")?;
+    put_text(out, ", ")?;
+    put_signed(out, i64::from(off))?;
+    put_text(out, "(")?;
     put_register(out, base)?;
-    put(out, ")")
+    put_text(out, ")")
 }
 
 pub(crate) fn put_with_number(
@@ -51,10 +61,10 @@ pub(crate) fn put_with_number(
     ensures err { OnErr result (Extends out.old.items out.new.items) }
 {
     put_register(out, first)?;
-    put(out, ", ")?;
+    put_text(out, ", ")?;
     put_register(out, second)?;
-    put(out, ", ")?;
-    put_signed(out, number)
+    put_text(out, ", ")?;
+    put_signed(out, i64::from(number))
 }
 
 pub(crate) fn put_registers(out: &mut Vec<u8>, rd: u8, rs1: u8, rs2: u8) -> Result<(), NoMemory>
@@ -62,9 +72,9 @@ pub(crate) fn put_registers(out: &mut Vec<u8>, rd: u8, rs1: u8, rs2: u8) -> Resu
     ensures err { OnErr result (Extends out.old.items out.new.items) }
 {
     put_register(out, rd)?;
-    put(out, ", ")?;
+    put_text(out, ", ")?;
     put_register(out, rs1)?;
-    put(out, ", ")?;
+    put_text(out, ", ")?;
     put_register(out, rs2)
 }
 
@@ -72,9 +82,9 @@ pub(crate) fn put_fence(out: &mut Vec<u8>, pred: u8, succ: u8) -> Result<(), NoM
     ensures ok { OnOk result (out.new.items ≡ out.old.items ++ fence_operands pred succ) }
     ensures err { OnErr result (Extends out.old.items out.new.items) }
 {
-    put_number(out, pred)?;
-    put(out, ", ")?;
-    put_number(out, succ)
+    put_decimal(out, u64::from(pred))?;
+    put_text(out, ", ")?;
+    put_decimal(out, u64::from(succ))
 }
 
 /// The address in brackets, and before it rs2 where the operation has one.
@@ -99,9 +109,9 @@ fn put_address(out: &mut Vec<u8>, rd: u8, rs1: u8) -> Result<(), NoMemory>
     ensures err { OnErr result (Extends out.old.items out.new.items) }
 {
     put_register(out, rd)?;
-    put(out, ", (")?;
+    put_text(out, ", (")?;
     put_register(out, rs1)?;
-    put(out, ")")
+    put_text(out, ")")
 }
 
 fn put_source(out: &mut Vec<u8>, rd: u8, rs1: u8, rs2: u8) -> Result<(), NoMemory>
@@ -109,9 +119,9 @@ fn put_source(out: &mut Vec<u8>, rd: u8, rs1: u8, rs2: u8) -> Result<(), NoMemor
     ensures err { OnErr result (Extends out.old.items out.new.items) }
 {
     put_register(out, rd)?;
-    put(out, ", ")?;
+    put_text(out, ", ")?;
     put_register(out, rs2)?;
-    put(out, ", (")?;
+    put_text(out, ", (")?;
     put_register(out, rs1)?;
-    put(out, ")")
+    put_text(out, ")")
 }
