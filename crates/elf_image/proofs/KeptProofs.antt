@@ -1,16 +1,22 @@
 -- A file loads exactly where it keeps each rule.
-use Rattle.std.proofs.Common.{◌≡◌, ◌≢◌, ℕ, zero, suc, ◌+◌, ◌*◌, ◌%◌, ◌<◌, ◌≤◌, min, max, Bool, true, false, not, ◌&&◌, ◌||◌, ltb, leb, eqb, List, [], ◌∷◌, ◌++◌, length, find, Option, None, sym, ap, subst, ⊎_elim, refl, arith, eq-eqb}
+use Rattle.std.proofs.Common.{◌≡◌, ◌≢◌, ℕ, zero, suc, ◌+◌, ◌*◌, ◌%◌, ◌<◌, ◌≤◌, min, max, Bool, true, false, not, ◌&&◌, ◌||◌, ltb, leb}
+use Rattle.std.proofs.Common.{eqb, List, [], ◌∷◌, ◌++◌, length, find, Option, None, sym, ap, subst, ⊎_elim, refl, arith, eq-eqb}
 use Rattle.std.specs.List.{AllByRecursion, All, AllPairs, Any, list_any}
 use Rattle.std.proofs.lemmas.Bool.{eqb-true, eqb-false, ne_eqb, leb-true, le-leb, ltb-true, ltb-false, le-ltb}
 use Rattle.std.proofs.lemmas.List.Elements.{All-from_recursion, recursion_from_All}
+use Rattle.elf_image.specs.declared.format.TheConstants.{ELF_HEADER_BYTES, PROGRAM_HEADER_BYTES, PT_INTERP}
+use Rattle.flat_model.specs.declared.limits.TheConstants.{SEGMENTS_MOST, SEGMENTS_END}
 use Rattle.flat_model.specs.Fields.{flag}
 use Rattle.elf_image.specs.declared.headers.ProgramHeader.{ProgramHeader}
 use Rattle.elf_image.specs.declared.refusals.ImageRefusal.{ImageRefusal}
-use Rattle.elf_image.specs.Checks.{header_rules, place_rules, table_rules, each_rules, whole_rules}
+use Rattle.elf_image.specs.Checks.{place_rules, table_rules, header_rules, segment_rules}
 use Rattle.elf_image.specs.Fields.{e_entry, e_phoff, e_flags, e_phentsize, e_phnum, headers, segments, is_interpreter}
 use Rattle.elf_image.specs.Kept.{IsCode, AreDisjoint, KeepsRules}
 use Rattle.elf_image.specs.Laws.{LoadsByRules}
-use Rattle.elf_image.specs.Rules.{unless, unless_any, first_of, verdict, end_of, meets, is_writable, is_executable, has_code, overlap_after, long_enough, has_magic, is_rv64, is_static, not_compressed, header_size, headers_inside, no_interpreter, few_segments, inside_file, sizes_in_order, in_range, code_not_writable, apart, small_enough, enters_code}
+use Rattle.elf_image.specs.Rules.{unless, unless_any, first_of, verdict, memory_end, overlaps, is_writable, is_executable, has_code}
+use Rattle.elf_image.specs.Rules.{overlap_after, long_enough, has_magic, is_rv64, is_static, not_compressed, header_size, headers_inside}
+use Rattle.elf_image.specs.Rules.{no_interpreter, few_segments, inside_file, sizes_in_order, in_range, code_not_writable, apart}
+use Rattle.elf_image.specs.Rules.{small_enough, enters_code}
 use Rattle.elf_image.proofs.ImageLaws.{IsGood, sound, unless_none, first_none, none_breaks, and_left, and_right, both, paired}
 use Rattle.elf_image.proofs.LawProofs.{late_none, none_before, or_false, tells}
 use Rattle.elf_image.proofs.Pairs.{Pairwise, each-weaker, pairs-at}
@@ -26,9 +32,9 @@ where_any n b e some = or_false (eqb n 0) b (ne_eqb n 0 (omega arith)) e
 weaken : {X : Type 0} (P Q : X → Type 0) → ((x : X) → P x → Q x) → (xs : List X) → AllByRecursion P xs → All Q xs
 weaken P Q f xs all = All-from_recursion Q xs (each-weaker P Q f xs all)
 
-disjoint : (s t : ProgramHeader) → meets s t ≡ false → AreDisjoint s t
+disjoint : (s t : ProgramHeader) → overlaps s t ≡ false → AreDisjoint s t
 disjoint s t e addr in-s in-t =
-    let far = ltb-false (max s.address t.address) (min (end_of s) (end_of t)) e in
+    let far = ltb-false (max s.address t.address) (min (memory_end s) (memory_end t)) e in
     let a = in-s.from in
     let b = in-s.below in
     let c = in-t.from in
@@ -41,11 +47,11 @@ not_both false x e is = cc
 
 has_is : (addr : ℕ) (h : ProgramHeader) → has_code addr h ≡ true → IsCode addr h
 has_is addr h code =
-    let inside = and_right (is_executable h) (leb h.address addr && leb (addr + 4) (end_of h)) code in
+    let inside = and_right (is_executable h) (leb h.address addr && leb (addr + 4) (memory_end h)) code in
     record {
-      executable = and_left (is_executable h) (leb h.address addr && leb (addr + 4) (end_of h)) code;
-      from = leb-true h.address addr (and_left (leb h.address addr) (leb (addr + 4) (end_of h)) inside);
-      to = leb-true (addr + 4) (end_of h) (and_right (leb h.address addr) (leb (addr + 4) (end_of h)) inside);
+      executable = and_left (is_executable h) (leb h.address addr && leb (addr + 4) (memory_end h)) code;
+      from = leb-true h.address addr (and_left (leb h.address addr) (leb (addr + 4) (memory_end h)) inside);
+      to = leb-true (addr + 4) (memory_end h) (and_right (leb h.address addr) (leb (addr + 4) (memory_end h)) inside);
     }
 
 some_is : (addr : ℕ) (xs : List ProgramHeader) → list_any (has_code addr) xs ≡ true → Any (IsCode addr) xs
@@ -63,7 +69,7 @@ pub keeps : (file : List ℕ) → verdict file ≡ None → KeepsRules file
 unfolding verdict long_enough has_magic is_rv64 is_static not_compressed header_size headers_inside no_interpreter few_segments small_enough enters_code
 keeps file e =
     let late = late_none file e in
-    let early = none_before (header_rules file ++ place_rules file ++ table_rules file) (each_rules file ++ whole_rules file) e in
+    let early = none_before (header_rules file) (segment_rules file) e in
     let (r1, e1) = first_none (long_enough file) (has_magic file ∷ is_rv64 file ∷ is_static file ∷ not_compressed file ∷ place_rules file ++ table_rules file) early in
     let (r2, e2) = first_none (has_magic file) (is_rv64 file ∷ is_static file ∷ not_compressed file ∷ place_rules file ++ table_rules file) e1 in
     let (r3, e3) = first_none (is_rv64 file) (is_static file ∷ not_compressed file ∷ place_rules file ++ table_rules file) e2 in
@@ -77,10 +83,10 @@ keeps file e =
     let b3 = unless_none _ _ r3 in
     let b4 = and_left _ _ b3 in
     let b5 = and_left _ _ b4 in
-    let need = e_phoff file + 56 * e_phnum file in
+    let need = e_phoff file + PROGRAM_HEADER_BYTES * e_phnum file in
     let enters = unless_none (eqb (e_entry file % 4) 0 && list_any (has_code (e_entry file)) (segments file)) _ good.entry in
     record {
-      long_enough = leb-true 64 (length file) (unless_none _ _ r1);
+      long_enough = leb-true ELF_HEADER_BYTES (length file) (unless_none _ _ r1);
       magic = eqb-true _ _ (unless_none _ _ r2);
       class = eqb-true _ _ (and_left _ _ b5);
       little_endian = eqb-true _ _ (and_right _ _ b5);
@@ -88,15 +94,15 @@ keeps file e =
       machine = eqb-true _ _ (and_right _ _ b3);
       static = eqb-true _ _ (unless_none _ _ r4);
       not_compressed = not_true (flag (e_flags file) 0) (unless_none _ _ r5);
-      header_size = λ some. eqb-true _ _ (where_any (e_phnum file) (eqb (e_phentsize file) 56) (unless_none _ _ r6) some);
+      header_size = λ some. eqb-true _ _ (where_any (e_phnum file) (eqb (e_phentsize file) PROGRAM_HEADER_BYTES) (unless_none _ _ r6) some);
       headers_inside = λ some. leb-true need (length file) (where_any (e_phnum file) (leb need (length file)) (unless_none _ _ r7) some);
-      no_interpreter = weaken (λ h. eqb h.kind 3 ≡ false) (λ h. h.kind ≢ 3) (λ h p. eqb-false h.kind 3 p) (headers file) (none_breaks is_interpreter _ (headers file) r8);
-      few_segments = leb-true (length (segments file)) 16 (unless_none _ _ r9);
+      no_interpreter = weaken (λ h. eqb h.kind PT_INTERP ≡ false) (λ h. h.kind ≢ PT_INTERP) (λ h p. eqb-false h.kind PT_INTERP p) (headers file) (none_breaks is_interpreter _ (headers file) r8);
+      few_segments = leb-true (length (segments file)) SEGMENTS_MOST (unless_none _ _ r9);
       inside_file = weaken (IsGood file) (λ h. h.offset + h.file_size ≤ length file) (λ h p. p.inside) (segments file) good.each;
       sizes_in_order = weaken (IsGood file) (λ h. h.file_size ≤ h.memory_size) (λ h p. p.sizes) (segments file) good.each;
-      in_range = weaken (IsGood file) (λ h. end_of h ≤ 0x3FFFC00000) (λ h p. p.low) (segments file) good.each;
+      in_range = weaken (IsGood file) (λ h. memory_end h ≤ SEGMENTS_END) (λ h p. p.low) (segments file) good.each;
       code_not_writable = weaken (IsGood file) (λ h. is_writable h ≡ true → is_executable h ≡ false) (λ h p. not_both (is_writable h) (is_executable h) p.code) (segments file) good.each;
-      apart = pairs-at AreDisjoint (segments file) (paired (λ h. Unit {0}) (λ f s. meets f s ≡ false) AreDisjoint (λ f s p q none. disjoint f s none) (segments file) (each-weaker (IsGood file) (λ h. Unit {0}) (λ h p. tt) (segments file) good.each) good.pairs);
+      apart = pairs-at AreDisjoint (segments file) (paired (λ h. Unit {0}) (λ f s. overlaps f s ≡ false) AreDisjoint (λ f s p q none. disjoint f s none) (segments file) (each-weaker (IsGood file) (λ h. Unit {0}) (λ h p. tt) (segments file) good.each) good.pairs);
       small_enough = leb-true _ _ (unless_none _ _ good.small);
       aligned = eqb-true (e_entry file % 4) 0 (and_left (eqb (e_entry file % 4) 0) (list_any (has_code (e_entry file)) (segments file)) enters);
       enters_code = some_is (e_entry file) (segments file) (and_right (eqb (e_entry file % 4) 0) (list_any (has_code (e_entry file)) (segments file)) enters);
@@ -111,7 +117,8 @@ nothing_found : {X : Type 0} (test : X → Bool) (xs : List X) → AllByRecursio
 nothing_found test [] all = refl
 nothing_found test (x ∷ xs) (here, rest) = rw (here, nothing_found test xs rest) refl
 
-breaks_none : (breaks : ProgramHeader → Bool) (refusal : ℕ → ImageRefusal) (P : ProgramHeader → Type 0) → ((h : ProgramHeader) → P h → breaks h ≡ false) → (xs : List ProgramHeader) → All P xs → unless_any breaks refusal xs ≡ None
+breaks_none : (breaks : ProgramHeader → Bool) (refusal : ℕ → ImageRefusal) (P : ProgramHeader → Type 0)
+    → ((h : ProgramHeader) → P h → breaks h ≡ false) → (xs : List ProgramHeader) → All P xs → unless_any breaks refusal xs ≡ None
 breaks_none breaks refusal P f xs all =
     let none = nothing_found breaks xs (each-weaker P (λ h. breaks h ≡ false) f xs (recursion_from_All P xs all)) in
     rw none refl
@@ -137,32 +144,34 @@ pairwise-from R (x ∷ xs) all = (
   pairwise-from R xs (λ i j d order below. all (suc i) (suc j) d (omega arith) (omega arith)),
 )
 
-meets_not : (s t : ProgramHeader) → AreDisjoint s t → meets s t ≡ false
-meets_not s t disjoint =
+overlaps_not : (s t : ProgramHeader) → AreDisjoint s t → overlaps s t ≡ false
+overlaps_not s t disjoint =
     ⊎_elim
-    (λ yes. let at = ltb-true (max s.address t.address) (min (end_of s) (end_of t)) yes in absurd (disjoint (max s.address t.address) (record { from = omega arith; below = omega arith }) (record { from = omega arith; below = omega arith })))
+    (λ yes. let at = ltb-true (max s.address t.address) (min (memory_end s) (memory_end t)) yes in absurd (disjoint (max s.address t.address) (record { from = omega arith; below = omega arith }) (record { from = omega arith; below = omega arith })))
     (λ fails. fails)
-    (tells (meets s t))
+    (tells (overlaps s t))
 
-each-push : (P : ProgramHeader → Type 0) (before : List ProgramHeader) (s : ProgramHeader) → AllByRecursion P before → P s → AllByRecursion P (before ++ s ∷ [])
+each-push : (P : ProgramHeader → Type 0) (before : List ProgramHeader) (s : ProgramHeader) → AllByRecursion P before → P s
+    → AllByRecursion P (before ++ s ∷ [])
 each-push P [] s all p = (p, tt)
 each-push P (x ∷ before) s (here, rest) p = (here, each-push P before s rest p)
 
-none_overlap : (before rest : List ProgramHeader) → AllByRecursion (λ s. AllByRecursion (λ f. meets f s ≡ false) before) rest → Pairwise (λ f s. meets f s ≡ false) rest → overlap_after before rest ≡ None
+none_overlap : (before rest : List ProgramHeader) → AllByRecursion (λ s. AllByRecursion (λ f. overlaps f s ≡ false) before) rest
+    → Pairwise (λ f s. overlaps f s ≡ false) rest → overlap_after before rest ≡ None
 unfolding overlap_after
 none_overlap before [] crossed pairs = refl
 none_overlap before (s ∷ rest) (here, front) (last, pairs) =
-    let found : find (λ f. meets f s) before ≡ None = nothing_found (λ f. meets f s) before here in
-    let joined = both (λ t. AllByRecursion (λ f. meets f t ≡ false) before) (λ t. meets s t ≡ false) (λ t. AllByRecursion (λ f. meets f t ≡ false) (before ++ s ∷ [])) (λ t p q. each-push (λ f. meets f t ≡ false) before s p q) rest front last in
+    let found : find (λ f. overlaps f s) before ≡ None = nothing_found (λ f. overlaps f s) before here in
+    let joined = both (λ t. AllByRecursion (λ f. overlaps f t ≡ false) before) (λ t. overlaps s t ≡ false) (λ t. AllByRecursion (λ f. overlaps f t ≡ false) (before ++ s ∷ [])) (λ t p q. each-push (λ f. overlaps f t ≡ false) before s p q) rest front last in
     let later = none_overlap (before ++ s ∷ []) rest joined pairs in
     rw (found, later) refl
 
-crossed_none : (xs : List ProgramHeader) → AllByRecursion (λ s. AllByRecursion (λ f. meets f s ≡ false) []) xs
+crossed_none : (xs : List ProgramHeader) → AllByRecursion (λ s. AllByRecursion (λ f. overlaps f s ≡ false) []) xs
 crossed_none [] = tt
 crossed_none (x ∷ xs) = (tt, crossed_none xs)
 
 code_has : (addr : ℕ) (h : ProgramHeader) → IsCode addr h → has_code addr h ≡ true
-code_has addr h is = rw (is.executable, le-leb h.address addr is.from, le-leb (addr + 4) (end_of h) is.to) refl
+code_has addr h is = rw (is.executable, le-leb h.address addr is.from, le-leb (addr + 4) (memory_end h) is.to) refl
 
 any_from : (addr : ℕ) (xs : List ProgramHeader) → Any (IsCode addr) xs → list_any (has_code addr) xs ≡ true
 any_from addr [] (k, x, below, at, is) = absurd (omega arith)
@@ -174,7 +183,7 @@ next rule rest e more = rw e more
 
 kept1 : (file : List ℕ) → KeepsRules file → long_enough file ≡ None
 unfolding long_enough
-kept1 file k = unless_holds _ _ (le-leb 64 (length file) k.long_enough)
+kept1 file k = unless_holds _ _ (le-leb ELF_HEADER_BYTES (length file) k.long_enough)
 
 kept2 : (file : List ℕ) → KeepsRules file → has_magic file ≡ None
 unfolding has_magic
@@ -194,15 +203,15 @@ kept5 file k = unless_holds _ _ (ap not k.not_compressed)
 
 kept6 : (file : List ℕ) → KeepsRules file → header_size file ≡ None
 unfolding header_size
-kept6 file k = unless_holds _ _ (where_some (e_phnum file) (eqb (e_phentsize file) 56) (λ some. eq-eqb _ _ (k.header_size some)))
+kept6 file k = unless_holds _ _ (where_some (e_phnum file) (eqb (e_phentsize file) PROGRAM_HEADER_BYTES) (λ some. eq-eqb _ _ (k.header_size some)))
 
 kept7 : (file : List ℕ) → KeepsRules file → headers_inside file ≡ None
 unfolding headers_inside
-kept7 file k = unless_holds _ _ (where_some (e_phnum file) (leb (e_phoff file + 56 * e_phnum file) (length file)) (λ some. le-leb _ _ (k.headers_inside some)))
+kept7 file k = unless_holds _ _ (where_some (e_phnum file) (leb (e_phoff file + PROGRAM_HEADER_BYTES * e_phnum file) (length file)) (λ some. le-leb _ _ (k.headers_inside some)))
 
 kept8 : (file : List ℕ) → KeepsRules file → no_interpreter file ≡ None
 unfolding no_interpreter
-kept8 file k = breaks_none is_interpreter _ (λ h. h.kind ≢ 3) (λ h p. ne_eqb h.kind 3 p) (headers file) k.no_interpreter
+kept8 file k = breaks_none is_interpreter _ (λ h. h.kind ≢ PT_INTERP) (λ h p. ne_eqb h.kind PT_INTERP p) (headers file) k.no_interpreter
 
 kept9 : (file : List ℕ) → KeepsRules file → few_segments file ≡ None
 unfolding few_segments
@@ -218,7 +227,7 @@ kept11 file k = breaks_none (λ h. ltb h.memory_size h.file_size) _ (λ h. h.fil
 
 kept12 : (file : List ℕ) → KeepsRules file → in_range file ≡ None
 unfolding in_range
-kept12 file k = breaks_none (λ h. ltb 0x3FFFC00000 (end_of h)) _ (λ h. end_of h ≤ 0x3FFFC00000) (λ h p. le-ltb _ _ p) (segments file) k.in_range
+kept12 file k = breaks_none (λ h. ltb SEGMENTS_END (memory_end h)) _ (λ h. memory_end h ≤ SEGMENTS_END) (λ h p. le-ltb _ _ p) (segments file) k.in_range
 
 not_and : (w x : Bool) → (w ≡ true → x ≡ false) → (w && x) ≡ false
 not_and true x f = f refl
@@ -234,7 +243,7 @@ unit_each (x ∷ xs) = (tt, unit_each xs)
 
 kept14 : (file : List ℕ) → KeepsRules file → apart file ≡ None
 unfolding apart
-kept14 file k = none_overlap [] (segments file) (crossed_none (segments file)) (paired (λ h. Unit {0}) AreDisjoint (λ f s. meets f s ≡ false) (λ f s p q is. meets_not f s is) (segments file) (unit_each (segments file)) (pairwise-from AreDisjoint (segments file) k.apart))
+kept14 file k = none_overlap [] (segments file) (crossed_none (segments file)) (paired (λ h. Unit {0}) AreDisjoint (λ f s. overlaps f s ≡ false) (λ f s p q is. overlaps_not f s is) (segments file) (unit_each (segments file)) (pairwise-from AreDisjoint (segments file) k.apart))
 
 kept15 : (file : List ℕ) → KeepsRules file → small_enough file ≡ None
 unfolding small_enough

@@ -31,7 +31,8 @@ pub each-map : {X Y : Type 0} (P : Y → Type 0) (f : X → Y) (xs : List X) →
 each-map P f [] all = tt
 each-map P f (x ∷ xs) (head, tail) = (head, each-map P f xs tail)
 
-pub pairwise-map : {X Y : Type 0} (R : Y → Y → Type 0) (f : X → Y) (xs : List X) → Pairwise (λ x y. R (f x) (f y)) xs → Pairwise R (map f xs)
+pub pairwise-map : {X Y : Type 0} (R : Y → Y → Type 0) (f : X → Y) (xs : List X) → Pairwise (λ x y. R (f x) (f y)) xs
+    → Pairwise R (map f xs)
 pairwise-map R f [] all = tt
 pairwise-map R f (x ∷ xs) (head, tail) = (each-map (R (f x)) f xs head, pairwise-map R f xs tail)
 
@@ -41,7 +42,8 @@ each-at P [] all k d below = absurd (omega arith)
 each-at P (x ∷ xs) (head, tail) zero d below = head
 each-at P (x ∷ xs) (head, tail) (suc k) d below = each-at P xs tail k d (omega arith)
 
-pub pairs-at : {X : Type 0} (R : X → X → Type 0) (xs : List X) → Pairwise R xs → (i j : ℕ) (d : X) → i < j → j < length xs → R (get_or xs i d) (get_or xs j d)
+pub pairs-at : {X : Type 0} (R : X → X → Type 0) (xs : List X) → Pairwise R xs → (i j : ℕ) (d : X) → i < j → j < length xs
+    → R (get_or xs i d) (get_or xs j d)
 pairs-at R [] all i j d order below = absurd (omega arith)
 pairs-at R (x ∷ xs) (head, tail) i zero d order below = absurd (omega arith)
 pairs-at R (x ∷ xs) (head, tail) zero (suc j) d order below = each-at (R x) xs head j d (omega arith)

@@ -6,7 +6,8 @@ use Rattle.elf_image.specs.declared.refusals.ImageRefusal.{ImageRefusal}
 use Rattle.elf_image.specs.Rules.{first_of, overlap_of, overlap_after}
 
 -- the first refusal of the front is the first of all
-pub stops : (front back : List (Option ImageRefusal)) (refusal : ImageRefusal) → first_of front ≡ Some refusal → first_of (front ++ back) ≡ Some refusal
+pub stops : (front back : List (Option ImageRefusal)) (refusal : ImageRefusal) → first_of front ≡ Some refusal
+    → first_of (front ++ back) ≡ Some refusal
 stops [] back refusal e = cc
 stops (None ∷ front) back refusal e = stops front back refusal e
 stops (Some first ∷ front) back refusal e = e
@@ -18,16 +19,20 @@ goes_on (None ∷ front) back e = goes_on front back e
 goes_on (Some first ∷ front) back e = cc
 
 -- a step over the segments, of which the one at place i has the refusal `found`
-overlap_more : (xs : List ProgramHeader) (i : ℕ) (d : ProgramHeader) (found : Option ImageRefusal) → i < length xs → found ≡ overlap_of (take i xs) (get_or xs i d) → overlap_after (take i xs) (drop i xs) ≡ first_of (found ∷ overlap_after (take (i + 1) xs) (drop (i + 1) xs) ∷ [])
+overlap_more : (xs : List ProgramHeader) (i : ℕ) (d : ProgramHeader) (found : Option ImageRefusal) → i < length xs
+    → found ≡ overlap_of (take i xs) (get_or xs i d)
+    → overlap_after (take i xs) (drop i xs) ≡ first_of (found ∷ overlap_after (take (i + 1) xs) (drop (i + 1) xs) ∷ [])
 unfolding overlap_after
 overlap_more xs i d found below at = rw (at, drop_more xs i d below, take_more xs i d below) refl
 
--- it overlaps
-pub overlaps : (xs : List ProgramHeader) (i : ℕ) (d : ProgramHeader) (refusal : ImageRefusal) → i < length xs → Some refusal ≡ overlap_of (take i xs) (get_or xs i d) → overlap_after (take i xs) (drop i xs) ≡ Some refusal
-overlaps xs i d refusal below at = overlap_more xs i d (Some refusal) below at
+-- it overlaps an earlier one
+pub overlap_found : (xs : List ProgramHeader) (i : ℕ) (d : ProgramHeader) (refusal : ImageRefusal) → i < length xs
+    → Some refusal ≡ overlap_of (take i xs) (get_or xs i d) → overlap_after (take i xs) (drop i xs) ≡ Some refusal
+overlap_found xs i d refusal below at = overlap_more xs i d (Some refusal) below at
 
 -- it doesn't
-pub lies_apart : (xs : List ProgramHeader) (i : ℕ) (d : ProgramHeader) → i < length xs → None ≡ overlap_of (take i xs) (get_or xs i d) → overlap_after (take i xs) (drop i xs) ≡ overlap_after (take (i + 1) xs) (drop (i + 1) xs)
+pub lies_apart : (xs : List ProgramHeader) (i : ℕ) (d : ProgramHeader) → i < length xs → None ≡ overlap_of (take i xs) (get_or xs i d)
+    → overlap_after (take i xs) (drop i xs) ≡ overlap_after (take (i + 1) xs) (drop (i + 1) xs)
 lies_apart xs i d below at =
     overlap_more xs i d None below at ∙ only (overlap_after (take (i + 1) xs) (drop (i + 1) xs))
   where

@@ -3,15 +3,13 @@
 ghost use Rattle.std.specs.Prelude.{◌≡◌, ◌+◌, ◌*◌, ◌<◌, ◌≤◌, ◌&&◌, length, IfOk};
 ghost use Rattle.elf_image.specs.Checks.{HasTable};
 ghost use Rattle.elf_image.specs.Fields.{e_entry, e_phoff, e_phnum, header_at, segments};
-ghost use Rattle.elf_image.specs.Rules.{end_of, has_code, is_executable, is_readable, is_writable, meets};
+ghost use Rattle.elf_image.specs.declared.format.TheConstants.{ELF_HEADER_BYTES, PROGRAM_HEADER_BYTES};
+ghost use Rattle.elf_image.specs.Rules.{memory_end, has_code, is_executable, is_readable, is_writable, overlaps};
 
 use crate::fields::{flag, u16_at, u32_at, u64_at};
+use crate::format::*;
 use flat_model::NoMemory;
 use std::alloc::Global;
-
-const PT_LOAD: u32 = 1;
-
-pub(crate) const PT_INTERP: u32 = 3;
 
 /// What the loader reads of a program header (ELF64, "Program header table").
 #[derive(Clone, Copy, Debug)]
@@ -36,19 +34,19 @@ impl ProgramHeader {
     pub(crate) fn is_executable(&self) -> bool
         ensures { result ≡ is_executable self.now }
     {
-        flag(self.flags, 0)
+        flag(self.flags, PF_X_BIT)
     }
 
     pub(crate) fn is_writable(&self) -> bool
         ensures { result ≡ is_writable self.now }
     {
-        flag(self.flags, 1)
+        flag(self.flags, PF_W_BIT)
     }
 
     pub(crate) fn is_readable(&self) -> bool
         ensures { result ≡ is_readable self.now }
     {
-        flag(self.flags, 2)
+        flag(self.flags, PF_R_BIT)
     }
 
     /// Where the segment's bytes end in the file.
@@ -59,41 +57,41 @@ impl ProgramHeader {
     }
 
     /// The first address past the segment.
-    pub(crate) fn end(&self) -> u128
-        ensures { result ≡ end_of self.now }
+    pub(crate) fn memory_end(&self) -> u128
+        ensures { result ≡ memory_end self.now }
     {
         self.address as u128 + self.memory_size as u128
     }
 
     /// Whether some address lies in both segments.
-    pub(crate) fn meets(&self, other: &ProgramHeader) -> bool
-        ensures { result ≡ meets self.now other.now }
+    pub(crate) fn overlaps(&self, other: &ProgramHeader) -> bool
+        ensures { result ≡ overlaps self.now other.now }
     {
-        (self.address.max(other.address) as u128) < self.end().min(other.end())
+        (self.address.max(other.address) as u128) < self.memory_end().min(other.memory_end())
     }
 
     /// Whether the four bytes from `addr` on lie in the segment and can be executed.
     pub(crate) fn has_code(&self, addr: u64) -> bool
         ensures { result ≡ has_code addr self.now }
     {
-        self.is_executable() && self.address <= addr && addr as u128 + 4 <= self.end()
+        self.is_executable() && self.address <= addr && addr as u128 + 4 <= self.memory_end()
     }
 }
 
 /// The number of program headers.
 pub(crate) fn header_count(file: &[u8]) -> u16
-    requires { 64 ≤ length file.now }
+    requires { ELF_HEADER_BYTES ≤ length file.now }
     ensures { result ≡ e_phnum file.now }
 {
-    u16_at(file, 56)
+    u16_at(file, E_PHNUM)
 }
 
 /// The address of the first instruction.
 pub(crate) fn entry(file: &[u8]) -> u64
-    requires { 64 ≤ length file.now }
+    requires { ELF_HEADER_BYTES ≤ length file.now }
     ensures { result ≡ e_entry file.now }
 {
-    u64_at(file, 24)
+    u64_at(file, E_ENTRY)
 }
 
 /// The program header at a place of the table.
@@ -101,17 +99,17 @@ pub(crate) fn entry(file: &[u8]) -> u64
 pub(crate) fn header(file: &[u8], index: u16) -> ProgramHeader
     requires table { HasTable file.now }
     requires place { index < e_phnum file.now }
-    ensures { result ≡ header_at file.now (e_phoff file.now + 56 * index) index }
+    ensures { result ≡ header_at file.now (e_phoff file.now + PROGRAM_HEADER_BYTES * index) index }
 {
-    let start = u64_at(file, 32) as usize + 56 * index as usize;
+    let start = u64_at(file, E_PHOFF) as usize + PROGRAM_HEADER_BYTES as usize * index as usize;
     ProgramHeader {
         index: index as u32,
-        kind: u32_at(file, start),
-        flags: u32_at(file, start + 4),
-        offset: u64_at(file, start + 8),
-        address: u64_at(file, start + 16),
-        file_size: u64_at(file, start + 32),
-        memory_size: u64_at(file, start + 40),
+        kind: u32_at(file, start + P_TYPE),
+        flags: u32_at(file, start + P_FLAGS),
+        offset: u64_at(file, start + P_OFFSET),
+        address: u64_at(file, start + P_VADDR),
+        file_size: u64_at(file, start + P_FILESZ),
+        memory_size: u64_at(file, start + P_MEMSZ),
     }
 }
 

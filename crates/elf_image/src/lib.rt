@@ -8,6 +8,7 @@ pub use loading::load;
 pub use refusals::ImageRefusal;
 
 mod fields;
+mod format;
 mod headers;
 mod laws;
 mod loading;

@@ -1,70 +1,80 @@
 //! The rules of a file that loads, in their order.
 
-ghost use Rattle.std.specs.Prelude.{◌≡◌, ◌+◌, ◌*◌, ◌<◌, ◌≤◌, ◌==◌, ◌&&◌, slice_index, ◌++◌, ◌%◌, [], ◌∷◌, length, OnOk, true, sum_by, find, nat_lt};
+ghost use Rattle.std.specs.Prelude.{◌≡◌, ◌+◌, ◌<◌, ◌≤◌, ◌&&◌, length, OnOk, true, sum_by, find, nat_lt};
 ghost use Rattle.std.specs.Option.{option_copied};
 ghost use Rattle.std.specs.List.{list_any};
-ghost use Rattle.elf_image.specs.Checks.{HasTable, Meets, header_rules, place_rules, table_rules, each_rules, whole_rules};
-ghost use Rattle.elf_image.specs.Fields.{u16_at, e_phnum, segments};
-ghost use Rattle.elf_image.specs.Rules.{unless, first_of, end_of, is_writable, is_executable, meets, overlap_of, has_code, long_enough, has_magic, is_rv64, is_static, not_compressed, header_size, headers_inside, no_interpreter, few_segments, inside_file, sizes_in_order, in_range, code_not_writable, apart, small_enough, enters_code};
+ghost use Rattle.flat_model.specs.declared.limits.TheConstants.{SEGMENTS_END};
+ghost use Rattle.elf_image.specs.Checks.{HasTable, Answers, identity_rules, kind_rules, place_rules, header_rules, segment_rules};
+ghost use Rattle.elf_image.specs.declared.format.TheConstants.{ELF_HEADER_BYTES};
+ghost use Rattle.elf_image.specs.Fields.{segments};
+ghost use Rattle.elf_image.specs.Rules.{unless, first_of, memory_end, is_writable, is_executable, is_riscv64, overlaps, overlap_of};
+ghost use Rattle.elf_image.specs.Rules.{has_code};
+ghost use Rattle.elf_image.specs.Rules.{no_interpreter, few_segments, inside_file, sizes_in_order, in_range, code_not_writable};
+ghost use Rattle.elf_image.specs.Rules.{apart, small_enough, enters_code};
 
 use crate::fields::{flag, u16_at, u32_at, u64_at};
-use crate::headers::{PT_INTERP, ProgramHeader, entry, header, header_count, segment_count};
+use crate::format::*;
+use crate::headers::{ProgramHeader, entry, header, header_count, segment_count};
 use crate::refusals::ImageRefusal;
-
-/// The bytes 7F 45 4C 46.
-const MAGIC: u32 = 0x464C_457F;
-
-const ET_EXEC: u16 = 2;
-
-const EM_RISCV: u16 = 243;
-/// Where the stacks begin.
-const TOP: u128 = 0x3F_FFC0_0000;
-
-const MOST_SEGMENTS: u32 = 16;
-/// 64 MiB.
-const MOST_BYTES: u128 = 67_108_864;
+use flat_model::limits::{FILE_MOST, SEGMENTS_END, SEGMENTS_MOST};
 
 /// Refuses unless the condition holds.
 fn unless(holds: bool, refusal: ImageRefusal) -> Result<(), ImageRefusal>
-    ensures rule { Meets result (unless holds refusal) }
+    ensures rule { Answers result (unless holds refusal) }
     ensures held { OnOk result (holds ≡ true) }
 {
     if holds { Ok(()) } else { Err(refusal) }
 }
 
 /// Class 64, little-endian, version 1, RISC-V.
-fn is_rv64(file: &[u8]) -> bool
-    requires { 64 ≤ length file.now }
-    ensures { result ≡ (slice_index file.now 4 == 2 && slice_index file.now 5 == 1 && slice_index file.now 6 == 1 && u16_at file.now 18 == 243) }
+fn is_riscv64(file: &[u8]) -> bool
+    requires { ELF_HEADER_BYTES ≤ length file.now }
+    ensures { result ≡ is_riscv64 file.now }
 {
-    file[4] == 2 && file[5] == 1 && file[6] == 1 && u16_at(file, 18) == EM_RISCV
+    file[EI_CLASS] == ELFCLASS64
+        && file[EI_DATA] == ELFDATA2LSB
+        && file[EI_VERSION] == EV_CURRENT
+        && u16_at(file, E_MACHINE) == EM_RISCV
 }
 
-/// The rules of the ELF header.
-#[tactic(auto, unfolding(crate::specs::Rules::long_enough, crate::specs::Rules::has_magic, crate::specs::Rules::is_rv64, crate::specs::Rules::is_static, crate::specs::Rules::not_compressed))]
-fn check_header(file: &[u8]) -> Result<(), ImageRefusal>
-    ensures rules { Meets result (first_of (header_rules file.now)) }
-    ensures header { OnOk result (64 ≤ length file.now) }
+/// The file is an ELF64 file for RISC-V.
+#[tactic(auto, unfolding(crate::specs::Rules::long_enough, crate::specs::Rules::has_magic, crate::specs::Rules::is_rv64))]
+fn check_identity(file: &[u8]) -> Result<(), ImageRefusal>
+    ensures rules { Answers result (first_of (identity_rules file.now)) }
+    ensures header { OnOk result (ELF_HEADER_BYTES ≤ length file.now) }
 {
-    let len = file.len() as u128;
-    unless(64 <= len, ImageRefusal::Short { need: 64, got: len })?;
-    unless(u32_at(file, 0) == MAGIC, ImageRefusal::NotElf)?;
-    unless(is_rv64(file), ImageRefusal::NotRv64)?;
-    unless(u16_at(file, 16) == ET_EXEC, ImageRefusal::NotStatic)?;
-    unless(!flag(u32_at(file, 48), 0), ImageRefusal::Compressed)
+    let need = ELF_HEADER_BYTES;
+    let got = file.len() as u128;
+    unless(need <= got, ImageRefusal::Short { need, got })?;
+    unless(u32_at(file, EI_MAG) == ELFMAG, ImageRefusal::NotElf)?;
+    unless(is_riscv64(file), ImageRefusal::NotRv64)
+}
+
+/// The file is a static executable without compressed instructions.
+#[tactic(auto, unfolding(crate::specs::Rules::is_static, crate::specs::Rules::not_compressed))]
+fn check_kind(file: &[u8]) -> Result<(), ImageRefusal>
+    requires { ELF_HEADER_BYTES ≤ length file.now }
+    ensures { Answers result (first_of (kind_rules file.now)) }
+{
+    unless(u16_at(file, E_TYPE) == ET_EXEC, ImageRefusal::NotStatic)?;
+    let is_compressed = flag(u32_at(file, E_FLAGS), EF_RISCV_RVC_BIT);
+    unless(!is_compressed, ImageRefusal::Compressed)
 }
 
 /// The rules of the program header table's place.
 #[tactic(auto, unfolding(crate::specs::Rules::header_size, crate::specs::Rules::headers_inside))]
 fn check_table(file: &[u8]) -> Result<(), ImageRefusal>
-    requires { 64 ≤ length file.now }
-    ensures rules { Meets result (first_of (place_rules file.now)) }
+    requires { ELF_HEADER_BYTES ≤ length file.now }
+    ensures rules { Answers result (first_of (place_rules file.now)) }
     ensures table { OnOk result (HasTable file.now) }
 {
     let count = header_count(file);
-    let size = u16_at(file, 54);
-    unless(count == 0 || size == 56, ImageRefusal::BadHeaders { size })?;
-    let need = u64_at(file, 32) as u128 + 56 * count as u128;
+    let size = u16_at(file, E_PHENTSIZE);
+    unless(
+        count == 0 || size == PROGRAM_HEADER_BYTES,
+        ImageRefusal::BadHeaders { size },
+    )?;
+    let need = u64_at(file, E_PHOFF) as u128 + PROGRAM_HEADER_BYTES as u128 * count as u128;
     let got = file.len() as u128;
     unless(
         count == 0 || need <= got,
@@ -75,7 +85,7 @@ fn check_table(file: &[u8]) -> Result<(), ImageRefusal>
 /// No program header asks for an interpreter.
 fn check_interpreter(file: &[u8]) -> Result<(), ImageRefusal>
     requires { HasTable file.now }
-    ensures { Meets result (no_interpreter file.now) }
+    ensures { Answers result (no_interpreter file.now) }
 {
     for index in 0..header_count(file) {
         if header(file, index).kind == PT_INTERP {
@@ -91,10 +101,10 @@ fn check_interpreter(file: &[u8]) -> Result<(), ImageRefusal>
 #[tactic(auto, unfolding(crate::specs::Rules::few_segments))]
 fn check_count(file: &[u8]) -> Result<(), ImageRefusal>
     requires { HasTable file.now }
-    ensures { Meets result (few_segments file.now) }
+    ensures { Answers result (few_segments file.now) }
 {
     let count = segment_count(file);
-    unless(count <= MOST_SEGMENTS, ImageRefusal::TooMany { count })
+    unless(count <= SEGMENTS_MOST, ImageRefusal::TooMany { count })
 }
 
 /// The first segment whose bytes reach past the end of the file.
@@ -113,9 +123,11 @@ fn larger_in_file(loads: &[ProgramHeader]) -> Option<&ProgramHeader>
 
 /// The first segment that reaches into the stacks.
 fn out_of_range(loads: &[ProgramHeader]) -> Option<&ProgramHeader>
-    ensures { option_copied result ≡ find (λ h. nat_lt 0x3FFFC00000 (end_of h)) loads.now }
+    ensures { option_copied result ≡ find (λ h. nat_lt SEGMENTS_END (memory_end h)) loads.now }
 {
-    loads.iter().find(|h| TOP < h.end())
+    loads
+        .iter()
+        .find(|h| (SEGMENTS_END as u128) < h.memory_end())
 }
 
 /// The first segment that is writable and executable.
@@ -126,17 +138,17 @@ fn writable_code(loads: &[ProgramHeader]) -> Option<&ProgramHeader>
 }
 
 /// The first of the earlier segments that shares an address with this one.
-fn met<'a>(before: &'a [ProgramHeader], second: &ProgramHeader) -> Option<&'a ProgramHeader>
-    ensures { option_copied result ≡ find (λ h. meets h second.now) before.now }
+fn overlapped<'a>(before: &'a [ProgramHeader], second: &ProgramHeader) -> Option<&'a ProgramHeader>
+    ensures { option_copied result ≡ find (λ h. overlaps h second.now) before.now }
 {
-    before.iter().find(|h| h.meets(second))
+    before.iter().find(|h| h.overlaps(second))
 }
 
 /// The refusal of a segment that shares an address with an earlier one.
 fn overlap(before: &[ProgramHeader], second: &ProgramHeader) -> Option<ImageRefusal>
     ensures { result ≡ overlap_of before.now second.now }
 {
-    let first = met(before, second)?;
+    let first = overlapped(before, second)?;
     Some(ImageRefusal::Overlap {
         first: first.index,
         second: second.index,
@@ -154,7 +166,7 @@ fn has_code(loads: &[ProgramHeader], entry: u64) -> bool
 #[tactic(auto, unfolding(crate::specs::Rules::inside_file))]
 fn check_inside(file: &[u8], loads: &[ProgramHeader]) -> Result<(), ImageRefusal>
     requires { loads.now ≡ segments file.now }
-    ensures { Meets result (inside_file file.now) }
+    ensures { Answers result (inside_file file.now) }
 {
     match past_end(loads, file.len() as u128) {
         Some(h) => Err(ImageRefusal::SegmentPastEnd { index: h.index }),
@@ -166,7 +178,7 @@ fn check_inside(file: &[u8], loads: &[ProgramHeader]) -> Result<(), ImageRefusal
 #[tactic(auto, unfolding(crate::specs::Rules::sizes_in_order))]
 fn check_sizes(file: &[u8], loads: &[ProgramHeader]) -> Result<(), ImageRefusal>
     requires { loads.now ≡ segments file.now }
-    ensures { Meets result (sizes_in_order file.now) }
+    ensures { Answers result (sizes_in_order file.now) }
 {
     match larger_in_file(loads) {
         Some(h) => Err(ImageRefusal::SizesCross { index: h.index }),
@@ -178,7 +190,7 @@ fn check_sizes(file: &[u8], loads: &[ProgramHeader]) -> Result<(), ImageRefusal>
 #[tactic(auto, unfolding(crate::specs::Rules::in_range))]
 fn check_range(file: &[u8], loads: &[ProgramHeader]) -> Result<(), ImageRefusal>
     requires { loads.now ≡ segments file.now }
-    ensures { Meets result (in_range file.now) }
+    ensures { Answers result (in_range file.now) }
 {
     match out_of_range(loads) {
         Some(h) => Err(ImageRefusal::AddressRange { index: h.index }),
@@ -190,7 +202,7 @@ fn check_range(file: &[u8], loads: &[ProgramHeader]) -> Result<(), ImageRefusal>
 #[tactic(auto, unfolding(crate::specs::Rules::code_not_writable))]
 fn check_code(file: &[u8], loads: &[ProgramHeader]) -> Result<(), ImageRefusal>
     requires { loads.now ≡ segments file.now }
-    ensures { Meets result (code_not_writable file.now) }
+    ensures { Answers result (code_not_writable file.now) }
 {
     match writable_code(loads) {
         Some(h) => Err(ImageRefusal::WritableCode { index: h.index }),
@@ -201,7 +213,7 @@ fn check_code(file: &[u8], loads: &[ProgramHeader]) -> Result<(), ImageRefusal>
 /// No two segments share an address.
 fn check_apart(file: &[u8], loads: &[ProgramHeader]) -> Result<(), ImageRefusal>
     requires { loads.now ≡ segments file.now }
-    ensures { Meets result (apart file.now) }
+    ensures { Answers result (apart file.now) }
 {
     for (i, second) in loads.iter().enumerate() {
         if let Some(refusal) = overlap(&loads[..i], second) {
@@ -226,18 +238,18 @@ fn memory_size(loads: &[ProgramHeader]) -> u128
 #[tactic(auto, unfolding(crate::specs::Rules::small_enough))]
 fn check_memory(file: &[u8], loads: &[ProgramHeader]) -> Result<(), ImageRefusal>
     requires { loads.now ≡ segments file.now }
-    ensures { Meets result (small_enough file.now) }
+    ensures { Answers result (small_enough file.now) }
 {
     let bytes = memory_size(loads);
-    unless(bytes <= MOST_BYTES, ImageRefusal::TooLarge { bytes })
+    unless(bytes <= FILE_MOST as u128, ImageRefusal::TooLarge { bytes })
 }
 
 /// The entry is a multiple of 4 in an executable segment.
 #[tactic(auto, unfolding(crate::specs::Rules::enters_code))]
 fn check_entry(file: &[u8], loads: &[ProgramHeader]) -> Result<(), ImageRefusal>
-    requires header { 64 ≤ length file.now }
+    requires header { ELF_HEADER_BYTES ≤ length file.now }
     requires loads { loads.now ≡ segments file.now }
-    ensures { Meets result (enters_code file.now) }
+    ensures { Answers result (enters_code file.now) }
 {
     let entry = entry(file);
     unless(
@@ -248,10 +260,11 @@ fn check_entry(file: &[u8], loads: &[ProgramHeader]) -> Result<(), ImageRefusal>
 
 /// The rules of the headers.
 pub(crate) fn check_headers(file: &[u8]) -> Result<(), ImageRefusal>
-    ensures rules { Meets result (first_of (header_rules file.now ++ place_rules file.now ++ table_rules file.now)) }
+    ensures rules { Answers result (first_of (header_rules file.now)) }
     ensures table { OnOk result (HasTable file.now) }
 {
-    check_header(file)?;
+    check_identity(file)?;
+    check_kind(file)?;
     check_table(file)?;
     check_interpreter(file)?;
     check_count(file)
@@ -259,9 +272,9 @@ pub(crate) fn check_headers(file: &[u8]) -> Result<(), ImageRefusal>
 
 /// The rules of the loadable segments.
 pub(crate) fn check_segments(file: &[u8], loads: &[ProgramHeader]) -> Result<(), ImageRefusal>
-    requires header { 64 ≤ length file.now }
+    requires header { ELF_HEADER_BYTES ≤ length file.now }
     requires loads { loads.now ≡ segments file.now }
-    ensures { Meets result (first_of (each_rules file.now ++ whole_rules file.now)) }
+    ensures { Answers result (first_of (segment_rules file.now)) }
 {
     check_inside(file, loads)?;
     check_sizes(file, loads)?;

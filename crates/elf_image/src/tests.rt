@@ -1,71 +1,74 @@
-//! Files that load and files that don't, built field by field.
+//! Files that load, files that don't, and the texts of the refusals. Offsets and values are written out here, so
+//! that no constant of the loader is its own witness.
 
 use crate::{ImageRefusal, load};
 use flat_model::Refused;
 use std::alloc::{AllocError, Global};
 use std::test::Fail;
 
-/// Writes 93, sets a0 to 0 and asks for the service.
-const WORDS: [u32; 3] = [0x05D0_0893, 0x0000_0513, 0x0000_0073];
+/// An offset in the file, a number of bytes, and the number that stands there.
+type Field = (usize, usize, u64);
 
-const PT_LOAD: u32 = 1;
+/// The ELF header and a program header for 12 bytes of code at 0x10000.
+const FIELDS: [Field; 11] = [
+    (0, 8, 0x0001_0102_464C_457F),
+    (16, 2, 2),
+    (18, 2, 243),
+    (24, 8, 0x10000),
+    (32, 8, 64),
+    (54, 2, 56),
+    (64, 4, 1),
+    (68, 4, 5),
+    (80, 8, 0x10000),
+    (96, 8, 12),
+    (104, 8, 12),
+];
 
-const CODE_FLAGS: u32 = 5;
+/// A second segment, of data alone, at the address of the code.
+const DATA_ON_CODE: [Field; 4] = [(120, 4, 1), (124, 4, 6), (136, 8, 0x10000), (160, 8, 4096)];
 
-const DATA_FLAGS: u32 = 6;
+/// Four segments of data behind the code's: the third of them overlaps both before it, the last one the code.
+const TWO_OVERLAPS: [Field; 12] = [
+    (120, 4, 1),
+    (136, 8, 0x20000),
+    (160, 8, 4096),
+    (176, 4, 1),
+    (192, 8, 0x30000),
+    (216, 8, 4096),
+    (232, 4, 1),
+    (248, 8, 0x20FFF),
+    (272, 8, 0xF002),
+    (288, 4, 1),
+    (304, 8, 0x10000),
+    (328, 8, 1),
+];
 
-/// `p_type`, `p_flags`, `p_offset`, `p_vaddr`, `p_filesz` and `p_memsz`.
-#[derive(Clone, Copy)]
-struct Header(u32, u32, u64, u64, u64, u64);
+/// The code's words in two numbers: 93 to a7, 0 to a0, ECALL.
+const WORDS: (u64, u64) = (0x0000_0513_05D0_0893, 0x73);
 
-/// A data segment with no bytes in the file.
-const fn data(address: u64, size: u64) -> Header {
-    Header(PT_LOAD, DATA_FLAGS, 0, address, 0, size)
-}
-
-/// The three words at 0x10000, from an offset of the file on.
-const fn code(offset: u64) -> Header {
-    Header(PT_LOAD, CODE_FLAGS, offset, 0x10000, 12, 12)
-}
-
-/// An ELF file with these program headers and the three words behind them.
-fn elf(alloc: Global, headers: &[Header]) -> Result<Vec<u8>, AllocError> {
-    let mut file = Vec::new(alloc);
-    file.extend_from_slice(&[0x7F, 0x45, 0x4C, 0x46, 2, 1, 1])?;
-    file.resize(16, 0)?;
-    file.extend_from_slice(&2u16.to_le_bytes())?;
-    file.extend_from_slice(&243u16.to_le_bytes())?;
-    file.resize(24, 0)?;
-    file.extend_from_slice(&0x10000u64.to_le_bytes())?;
-    file.extend_from_slice(&64u64.to_le_bytes())?;
-    file.resize(54, 0)?;
-    file.extend_from_slice(&56u16.to_le_bytes())?;
-    file.extend_from_slice(&(headers.len() as u64).to_le_bytes())?;
-    for header in headers {
-        file.extend_from_slice(&header.0.to_le_bytes())?;
-        file.extend_from_slice(&header.1.to_le_bytes())?;
-        file.extend_from_slice(&header.2.to_le_bytes())?;
-        file.extend_from_slice(&header.3.to_le_bytes())?;
-        file.extend_from_slice(&0u64.to_le_bytes())?;
-        file.extend_from_slice(&header.4.to_le_bytes())?;
-        file.extend_from_slice(&header.5.to_le_bytes())?;
-        file.extend_from_slice(&0u64.to_le_bytes())?;
-    }
-    for word in WORDS {
-        file.extend_from_slice(&word.to_le_bytes())?;
-    }
-    Ok(file)
-}
-
-/// The file with the lowest `width` bytes of a number at an offset.
-fn changed(alloc: Global, offset: usize, width: usize, value: u64) -> Result<Vec<u8>, AllocError> {
-    let mut file = elf(alloc, &[code(120)])?;
-    for (place, byte) in file
-        .iter_mut()
-        .skip(offset)
-        .zip(value.to_le_bytes().iter().take(width))
-    {
+/// Writes a field, as far as it lies in the file.
+fn put(file: &mut [u8], field: Field) {
+    let (offset, width, value) = field;
+    let bytes = value.to_le_bytes();
+    for (place, byte) in file.iter_mut().skip(offset).zip(bytes.iter().take(width)) {
         *place = *byte;
+    }
+}
+
+/// A file of this many program headers, the code's first, with the code behind them and some fields changed.
+fn file(alloc: Global, headers: u16, changes: &[Field]) -> Result<Vec<u8>, AllocError> {
+    let code = 64 + 56 * headers as usize;
+    let mut file = Vec::new(alloc);
+    file.resize(code + 12, 0)?;
+    for field in FIELDS {
+        put(&mut file, field);
+    }
+    put(&mut file, (56, 2, headers as u64));
+    put(&mut file, (72, 8, code as u64));
+    put(&mut file, (code, 8, WORDS.0));
+    put(&mut file, (code + 8, 4, WORDS.1));
+    for field in changes {
+        put(&mut file, *field);
     }
     Ok(file)
 }
@@ -78,139 +81,179 @@ fn refusal_of(alloc: Global, file: &[u8]) -> Option<ImageRefusal> {
     }
 }
 
+/// Program headers, changed fields and the refusal.
+const CHANGES: [(u16, &[Field], ImageRefusal); 18] = [
+    (1, &[(3, 1, 0)], ImageRefusal::NotElf),
+    (1, &[(4, 1, 1)], ImageRefusal::NotRv64),
+    (1, &[(16, 2, 3)], ImageRefusal::NotStatic),
+    (1, &[(48, 4, 1)], ImageRefusal::Compressed),
+    (1, &[(54, 2, 55)], ImageRefusal::BadHeaders { size: 55 }),
+    (
+        1,
+        &[(56, 2, 65535)],
+        ImageRefusal::HeadersPastEnd {
+            need: 3670024,
+            got: 132,
+        },
+    ),
+    (
+        1,
+        &[(32, 8, u64::MAX)],
+        ImageRefusal::HeadersPastEnd {
+            need: 18446744073709551671,
+            got: 132,
+        },
+    ),
+    (1, &[(64, 4, 3)], ImageRefusal::Interpreted { index: 0 }),
+    (
+        1,
+        &[(72, 8, u64::MAX)],
+        ImageRefusal::SegmentPastEnd { index: 0 },
+    ),
+    (1, &[(104, 8, 11)], ImageRefusal::SizesCross { index: 0 }),
+    (
+        1,
+        &[(80, 8, 0x3F_FFBF_FFF8)],
+        ImageRefusal::AddressRange { index: 0 },
+    ),
+    (1, &[(68, 4, 7)], ImageRefusal::WritableCode { index: 0 }),
+    (
+        2,
+        &DATA_ON_CODE,
+        ImageRefusal::Overlap {
+            first: 0,
+            second: 1,
+        },
+    ),
+    (
+        5,
+        &TWO_OVERLAPS,
+        ImageRefusal::Overlap {
+            first: 1,
+            second: 3,
+        },
+    ),
+    (
+        1,
+        &[(104, 8, 67108865)],
+        ImageRefusal::TooLarge { bytes: 67108865 },
+    ),
+    (
+        1,
+        &[(56, 2, 0)],
+        ImageRefusal::EntryNotCode { entry: 0x10000 },
+    ),
+    (
+        1,
+        &[(68, 4, 4)],
+        ImageRefusal::EntryNotCode { entry: 0x10000 },
+    ),
+    (
+        1,
+        &[(24, 8, 0x1000C)],
+        ImageRefusal::EntryNotCode { entry: 0x1000C },
+    ),
+];
+
 #[test]
 fn each_change_breaks_its_rule(rt: HostRuntime) -> Result<(), Fail> {
-    let all = u64::MAX;
-    let rows = [
-        (3, 1, 0, ImageRefusal::NotElf),
-        (4, 1, 1, ImageRefusal::NotRv64),
-        (16, 2, 3, ImageRefusal::NotStatic),
-        (48, 4, 1, ImageRefusal::Compressed),
-        (54, 2, 55, ImageRefusal::BadHeaders { size: 55 }),
-        (
-            56,
-            2,
-            65535,
-            ImageRefusal::HeadersPastEnd {
-                need: 3670024,
-                got: 132,
-            },
-        ),
-        (
-            32,
-            8,
-            all,
-            ImageRefusal::HeadersPastEnd {
-                need: 18446744073709551671,
-                got: 132,
-            },
-        ),
-        (64, 4, 3, ImageRefusal::Interpreted { index: 0 }),
-        (72, 8, all, ImageRefusal::SegmentPastEnd { index: 0 }),
-        (104, 8, 11, ImageRefusal::SizesCross { index: 0 }),
-        (
-            80,
-            8,
-            0x3F_FFBF_FFF8,
-            ImageRefusal::AddressRange { index: 0 },
-        ),
-        (68, 4, 7, ImageRefusal::WritableCode { index: 0 }),
-        (104, 8, 67108865, ImageRefusal::TooLarge { bytes: 67108865 }),
-        (56, 2, 0, ImageRefusal::EntryNotCode { entry: 0x10000 }),
-        (68, 4, 4, ImageRefusal::EntryNotCode { entry: 0x10000 }),
-        (
-            24,
-            8,
-            0x1000C,
-            ImageRefusal::EntryNotCode { entry: 0x1000C },
-        ),
-    ];
-    for (offset, width, value, refusal) in rows {
-        let file = changed(rt.alloc(), offset, width, value)?;
+    for (headers, changes, refusal) in CHANGES {
+        let file = file(rt.alloc(), headers, changes)?;
         assert_eq!(rt; refusal_of(rt.alloc(), &file), Some(refusal));
     }
-    Ok(())
-}
-
-#[test]
-fn a_file_that_is_cut_is_too_short(rt: HostRuntime) -> Result<(), Fail> {
-    let mut file = elf(rt.alloc(), &[code(120)])?;
-    file.truncate(100);
-    let past_end = ImageRefusal::HeadersPastEnd {
-        need: 120,
-        got: 100,
-    };
-    assert_eq!(rt; refusal_of(rt.alloc(), &file), Some(past_end));
-    for got in [63, 0] {
-        file.truncate(got);
-        let short = ImageRefusal::Short {
-            need: 64,
-            got: got as u128,
-        };
-        assert_eq!(rt; refusal_of(rt.alloc(), &file), Some(short));
-    }
-    Ok(())
-}
-
-#[test]
-fn the_least_overlap_is_named(rt: HostRuntime) -> Result<(), Fail> {
-    let alloc = rt.alloc();
-    let same = elf(alloc, &[code(176), data(0x10000, 4096)])?;
-    assert_eq!(rt;
-        refusal_of(alloc, &same),
-        Some(ImageRefusal::Overlap {
-            first: 0,
-            second: 1
-        })
-    );
-    let both = elf(
-        alloc,
-        &[
-            code(344),
-            data(0x20000, 4096),
-            data(0x30000, 4096),
-            data(0x20FFF, 0xF002),
-            data(0x10000, 1),
-        ],
-    )?;
-    assert_eq!(rt;
-        refusal_of(alloc, &both),
-        Some(ImageRefusal::Overlap {
-            first: 1,
-            second: 3
-        })
-    );
-    let touching = elf(alloc, &[code(232), data(0x1000C, 4), data(0x10000, 0)])?;
-    assert_eq!(rt; refusal_of(alloc, &touching), None);
-    let many = elf(alloc, &[data(0x20000, 1); 17])?;
-    assert_eq!(rt;
-        refusal_of(alloc, &many),
-        Some(ImageRefusal::TooMany { count: 17 })
-    );
+    let mut short = file(rt.alloc(), 1, &[])?;
+    short.truncate(63);
+    let refusal = ImageRefusal::Short { need: 64, got: 63 };
+    assert_eq!(rt; refusal_of(rt.alloc(), &short), Some(refusal));
     Ok(())
 }
 
 #[test]
 fn other_headers_are_passed_over(rt: HostRuntime) -> Result<(), Fail> {
-    let attributes = Header(0x7000_0003, 0, 0, 0, 0, 0);
-    let stack = Header(0x6474_E551, 0, 0, 0, 0, 0);
-    let file = elf(
-        rt.alloc(),
-        &[attributes, code(288), data(0x20000, 4096), stack],
-    )?;
-    let image = load(rt.alloc(), &file)?;
+    let fields = [
+        (120, 4, 0x7000_0003),
+        (176, 4, 1),
+        (180, 4, 6),
+        (192, 8, 0x20000),
+        (216, 8, 4096),
+        (232, 4, 0x6474_E551),
+    ];
+    let image = load(rt.alloc(), &file(rt.alloc(), 4, &fields)?)?;
     assert_eq!(rt; image.entry, 0x10000);
-    assert_eq!(rt; image.word(0x10000), Some(WORDS[0]));
-    assert_eq!(rt; image.word(0x10008), Some(WORDS[2]));
+    assert_eq!(rt; image.word(0x10000), Some(0x05D0_0893));
+    assert_eq!(rt; image.word(0x10008), Some(0x73));
     assert_eq!(rt; image.word(0x1000C), None);
     assert_eq!(rt; image.regions.len(), 2);
-    assert_eq!(rt;
-        image.regions[0].bytes.as_slice(),
-        [0x93, 0x08, 0xD0, 0x05, 0x13, 0x05, 0, 0, 0x73, 0, 0, 0].as_slice()
-    );
-    assert_eq!(rt; image.regions[1].base, 0x20000);
-    assert_eq!(rt; image.regions[1].bytes.len(), 4096);
-    assert!(rt; image.regions[1].bytes.iter().all(|byte| *byte == 0));
-    assert!(rt; image.regions[1].r && image.regions[1].w && !image.regions[1].x);
+    let data = &image.regions[1];
+    assert_eq!(rt; (data.base, data.bytes.len()), (0x20000, 4096));
+    assert!(rt; data.r && data.w && !data.x);
+    assert!(rt; data.bytes.iter().all(|byte| *byte == 0));
+    Ok(())
+}
+
+const TEXTS: [(ImageRefusal, &str); 16] = [
+    (
+        ImageRefusal::Short { need: 64, got: 63 },
+        "file too short: need 64, got 63",
+    ),
+    (ImageRefusal::NotElf, "not ELF"),
+    (ImageRefusal::NotRv64, "not little-endian ELF64 for RISC-V"),
+    (ImageRefusal::NotStatic, "not a static executable"),
+    (ImageRefusal::Compressed, "compressed instructions"),
+    (
+        ImageRefusal::BadHeaders { size: 55 },
+        "program header size 55",
+    ),
+    (
+        ImageRefusal::HeadersPastEnd {
+            need: 18446744073709551671,
+            got: 132,
+        },
+        "program headers past the end: need 18446744073709551671, got 132",
+    ),
+    (
+        ImageRefusal::Interpreted { index: 2 },
+        "needs an interpreter: header 2",
+    ),
+    (ImageRefusal::TooMany { count: 17 }, "17 loadable segments"),
+    (
+        ImageRefusal::SegmentPastEnd { index: 3 },
+        "segment 3 past the end of the file",
+    ),
+    (
+        ImageRefusal::SizesCross { index: 4 },
+        "segment 4 larger in the file than in memory",
+    ),
+    (
+        ImageRefusal::AddressRange { index: 5 },
+        "segment 5 out of the address range",
+    ),
+    (
+        ImageRefusal::WritableCode { index: 6 },
+        "segment 6 writable and executable",
+    ),
+    (
+        ImageRefusal::Overlap {
+            first: 7,
+            second: 8,
+        },
+        "segments 7 and 8 overlap",
+    ),
+    (
+        ImageRefusal::TooLarge { bytes: 67108865 },
+        "67108865 bytes of memory",
+    ),
+    (
+        ImageRefusal::EntryNotCode { entry: 0x1000C },
+        "entry 0x000000000001000c is not code",
+    ),
+];
+
+#[test]
+fn each_refusal_has_its_text(rt: HostRuntime) -> Result<(), Fail> {
+    for (refusal, expected) in TEXTS {
+        let text = refusal.to_string(rt.alloc())?;
+        assert_eq!(rt; text.as_str(), expected);
+    }
     Ok(())
 }

@@ -1,11 +1,15 @@
 -- The class of an instruction is that of its opcode and funct7.
 use Rattle.std.proofs.Common.{◌≡◌, ℕ, ap, ◌∙◌, sym, refl}
 use Rattle.flat_model.specs.declared.instructions.Ins.{Ins}
-use Rattle.flat_model.specs.declared.instructions.Ins.TheVariants.{Lui, Auipc, Jal, Jalr, Branch, Load, Store, Imm, Reg, Atomic, Fence, FenceI, Ecall, Ebreak}
+use Rattle.flat_model.specs.declared.instructions.Ins.TheVariants.{Lui, Auipc, Jal, Jalr, Branch, Load, Store, Imm, Reg, Atomic, Fence}
+use Rattle.flat_model.specs.declared.instructions.Ins.TheVariants.{FenceI, Ecall, Ebreak}
 use Rattle.flat_model.specs.declared.instructions.ImmOp.{ImmOp}
-use Rattle.flat_model.specs.declared.instructions.ImmOp.TheVariants.{Addi, Slti, Sltiu, Xori, Ori, Andi, Slli, Srli, Srai, Addiw, Slliw, Srliw, Sraiw}
+use Rattle.flat_model.specs.declared.instructions.ImmOp.TheVariants.{Addi, Slti, Sltiu, Xori, Ori, Andi, Slli, Srli, Srai, Addiw, Slliw}
+use Rattle.flat_model.specs.declared.instructions.ImmOp.TheVariants.{Srliw, Sraiw}
 use Rattle.flat_model.specs.declared.instructions.RegOp.{RegOp}
-use Rattle.flat_model.specs.declared.instructions.RegOp.TheVariants.{Add, Sub, Sll, Slt, Sltu, Xor, Srl, Sra, Or, And, Mul, Mulh, Mulhsu, Mulhu, Div, Divu, Rem, Remu, Addw, Subw, Sllw, Srlw, Sraw, Mulw, Divw, Divuw, Remw, Remuw}
+use Rattle.flat_model.specs.declared.instructions.RegOp.TheVariants.{Add, Sub, Sll, Slt, Sltu, Xor, Srl, Sra, Or, And, Mul, Mulh, Mulhsu}
+use Rattle.flat_model.specs.declared.instructions.RegOp.TheVariants.{Mulhu, Div, Divu, Rem, Remu, Addw, Subw, Sllw, Srlw, Sraw, Mulw}
+use Rattle.flat_model.specs.declared.instructions.RegOp.TheVariants.{Divw, Divuw, Remw, Remuw}
 use Rattle.flat_model.specs.declared.events.Class.TheVariants.{Alu}
 use Rattle.flat_model.specs.Rows.{imm_row, reg_row}
 use Rattle.flat_model.specs.Instruction.{Table, opcode, funct7, class_of, class_of_op, class_by}

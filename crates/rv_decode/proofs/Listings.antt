@@ -7,10 +7,15 @@ use Rattle.flat_model.specs.declared.instructions.LoadOp.TheVariants.{Lb, Lh, Lw
 use Rattle.flat_model.specs.declared.instructions.StoreOp.{StoreOp}
 use Rattle.flat_model.specs.declared.instructions.StoreOp.TheVariants.{Sb, Sh, Sw, Sd}
 use Rattle.flat_model.specs.declared.instructions.RegOp.{RegOp}
-use Rattle.flat_model.specs.declared.instructions.RegOp.TheVariants.{Add, Sub, Sll, Slt, Sltu, Xor, Srl, Sra, Or, And, Mul, Mulh, Mulhsu, Mulhu, Div, Divu, Rem, Remu, Addw, Subw, Sllw, Srlw, Sraw, Mulw, Divw, Divuw, Remw, Remuw}
+use Rattle.flat_model.specs.declared.instructions.RegOp.TheVariants.{Add, Sub, Sll, Slt, Sltu, Xor, Srl, Sra, Or, And, Mul, Mulh, Mulhsu}
+use Rattle.flat_model.specs.declared.instructions.RegOp.TheVariants.{Mulhu, Div, Divu, Rem, Remu, Addw, Subw, Sllw, Srlw, Sraw, Mulw}
+use Rattle.flat_model.specs.declared.instructions.RegOp.TheVariants.{Divw, Divuw, Remw, Remuw}
 use Rattle.flat_model.specs.declared.instructions.AtomicOp.{AtomicOp}
-use Rattle.flat_model.specs.declared.instructions.AtomicOp.TheVariants.{Lr, Sc, Swap, Add as AmoAdd, Xor as AmoXor, And as AmoAnd, Or as AmoOr, Min, Max, Minu, Maxu}
-use Rattle.flat_model.specs.Rows.{branch_op, branch_funct3, load_op, load_funct3, store_op, store_funct3, base_op, other_op, muldiv_op, reg_op, word_base_op, word_other_op, word_muldiv_op, word_reg_op, reg_row, atomic_op, atomic_funct5, MayHaveSource, wide_at, width_funct3}
+use Rattle.flat_model.specs.declared.instructions.AtomicOp.TheVariants.{Lr, Sc, Swap, Add as AmoAdd, Xor as AmoXor, And as AmoAnd}
+use Rattle.flat_model.specs.declared.instructions.AtomicOp.TheVariants.{Or as AmoOr, Min, Max, Minu, Maxu}
+use Rattle.flat_model.specs.Rows.{branch_op, branch_funct3, load_op, load_funct3, store_op, store_funct3, base_op, other_op, muldiv_op}
+use Rattle.flat_model.specs.Rows.{reg_op, word_base_op, word_other_op, word_muldiv_op, word_reg_op, reg_row, atomic_op, atomic_funct5}
+use Rattle.flat_model.specs.Rows.{MayHaveSource, wide_at, width_funct3}
 use Rattle.rv_decode.proofs.Choices.{found, nothing, choose}
 
 pub branch_op-sound : (n : ℕ) (op : BranchOp) → branch_op n ≡ Some op → n ≡ branch_funct3 op

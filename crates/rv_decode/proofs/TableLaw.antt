@@ -2,15 +2,23 @@
 use Rattle.std.proofs.Common.{◌≡◌, ℕ, ℤ, ◌==◌, if◌then◌else◌, Option, Some, None, refl, ap, ◌∙◌, sym, subst, ◌↔◌}
 use Rattle.std.specs.Prelude.{option_map, option_and_then}
 use Rattle.flat_model.specs.declared.instructions.Ins.{Ins}
-use Rattle.flat_model.specs.declared.instructions.Ins.TheVariants.{Lui, Auipc, Jal, Jalr, Branch, Load, Store, Imm, Reg, Atomic, Fence, FenceI, Ecall, Ebreak}
+use Rattle.flat_model.specs.declared.instructions.Ins.TheVariants.{Lui, Auipc, Jal, Jalr, Branch, Load, Store, Imm, Reg, Atomic, Fence}
+use Rattle.flat_model.specs.declared.instructions.Ins.TheVariants.{FenceI, Ecall, Ebreak}
 use Rattle.flat_model.specs.declared.instructions.ImmOp.{ImmOp}
-use Rattle.flat_model.specs.declared.instructions.ImmOp.TheVariants.{Addi, Slti, Sltiu, Xori, Ori, Andi, Slli, Srli, Srai, Addiw, Slliw, Srliw, Sraiw}
+use Rattle.flat_model.specs.declared.instructions.ImmOp.TheVariants.{Addi, Slti, Sltiu, Xori, Ori, Andi, Slli, Srli, Srai, Addiw, Slliw}
+use Rattle.flat_model.specs.declared.instructions.ImmOp.TheVariants.{Srliw, Sraiw}
 use Rattle.flat_model.specs.declared.instructions.RegOp.{RegOp}
-use Rattle.flat_model.specs.declared.instructions.RegOp.TheVariants.{Add, Sub, Sll, Slt, Sltu, Xor, Srl, Sra, Or, And, Mul, Mulh, Mulhsu, Mulhu, Div, Divu, Rem, Remu, Addw, Subw, Sllw, Srlw, Sraw, Mulw, Divw, Divuw, Remw, Remuw}
-use Rattle.flat_model.specs.Rows.{branch_op, load_op, store_op, imm_op, word_imm_op, imm_row, IsImmediate, immediate_of, reg_op, word_reg_op, reg_row, atomic_op, atomic_funct5, MayHaveSource, wide_at}
-use Rattle.flat_model.specs.Instruction.{Table, decoded, decoded_as, field, opcode, rd_of, funct3, rs1_of, rs2_of, funct7, funct5, i_immediate, s_immediate, b_immediate, j_immediate, u_top, jalr_at, branch_at, load_at, store_at, imm_as, reg_as, atomic_with, atomic_at, fence_at, system_at}
+use Rattle.flat_model.specs.declared.instructions.RegOp.TheVariants.{Add, Sub, Sll, Slt, Sltu, Xor, Srl, Sra, Or, And, Mul, Mulh, Mulhsu}
+use Rattle.flat_model.specs.declared.instructions.RegOp.TheVariants.{Mulhu, Div, Divu, Rem, Remu, Addw, Subw, Sllw, Srlw, Sraw, Mulw}
+use Rattle.flat_model.specs.declared.instructions.RegOp.TheVariants.{Divw, Divuw, Remw, Remuw}
+use Rattle.flat_model.specs.Rows.{branch_op, load_op, store_op, imm_op, word_imm_op, imm_row, IsImmediate, immediate_of, reg_op}
+use Rattle.flat_model.specs.Rows.{word_reg_op, reg_row, atomic_op, atomic_funct5, MayHaveSource, wide_at}
+use Rattle.flat_model.specs.Instruction.{Table, decoded, decoded_as, field, opcode, rd_of, funct3, rs1_of, rs2_of, funct7, funct5}
+use Rattle.flat_model.specs.Instruction.{i_immediate, s_immediate, b_immediate, j_immediate, u_top, jalr_at, branch_at, load_at, store_at}
+use Rattle.flat_model.specs.Instruction.{imm_as, reg_as, atomic_with, atomic_at, fence_at, system_at}
 use Rattle.rv_decode.proofs.Choices.{found, nothing, choose, mapped, chained}
-use Rattle.rv_decode.proofs.Listings.{branch_op-sound, branch_op-row, load_op-sound, load_op-row, store_op-sound, store_op-row, wide_at-sound, wide_at-row, reg_op-sound, word_reg_op-sound, atomic_op-sound, atomic_op-row}
+use Rattle.rv_decode.proofs.Listings.{branch_op-sound, branch_op-row, load_op-sound, load_op-row, store_op-sound, store_op-row}
+use Rattle.rv_decode.proofs.Listings.{wide_at-sound, wide_at-row, reg_op-sound, word_reg_op-sound, atomic_op-sound, atomic_op-row}
 
 -- The function gives rows alone.
 

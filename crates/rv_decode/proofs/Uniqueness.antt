@@ -1,11 +1,14 @@
 -- An instruction is one word: the fields of its row leave no bit of a word open.
 use Rattle.std.proofs.Common.{◌≡◌, ◌<◌, ◌+◌, ◌*◌, ◌^◌, ℕ, ℤ, pos, ◌==◌, Some, arith, ap, ◌∙◌, sym}
 use Rattle.flat_model.specs.declared.instructions.Ins.{Ins}
-use Rattle.flat_model.specs.declared.instructions.Ins.TheVariants.{Lui, Auipc, Jal, Jalr, Branch, Load, Store, Imm, Reg, Atomic, Fence, FenceI, Ecall, Ebreak}
+use Rattle.flat_model.specs.declared.instructions.Ins.TheVariants.{Lui, Auipc, Jal, Jalr, Branch, Load, Store, Imm, Reg, Atomic, Fence}
+use Rattle.flat_model.specs.declared.instructions.Ins.TheVariants.{FenceI, Ecall, Ebreak}
 use Rattle.flat_model.specs.declared.instructions.ImmOp.{ImmOp}
-use Rattle.flat_model.specs.declared.instructions.ImmOp.TheVariants.{Addi, Slti, Sltiu, Xori, Ori, Andi, Slli, Srli, Srai, Addiw, Slliw, Srliw, Sraiw}
+use Rattle.flat_model.specs.declared.instructions.ImmOp.TheVariants.{Addi, Slti, Sltiu, Xori, Ori, Andi, Slli, Srli, Srai, Addiw, Slliw}
+use Rattle.flat_model.specs.declared.instructions.ImmOp.TheVariants.{Srliw, Sraiw}
 use Rattle.flat_model.specs.Rows.{IsImmediate, IsShift, IsWordShift}
-use Rattle.flat_model.specs.Instruction.{Table, decoded, field, signed_at, opcode, rd_of, funct3, rs1_of, rs2_of, funct7, funct5, u_top, i_immediate, s_immediate, b_immediate, j_immediate}
+use Rattle.flat_model.specs.Instruction.{Table, decoded, field, signed_at, opcode, rd_of, funct3, rs1_of, rs2_of, funct7, funct5, u_top}
+use Rattle.flat_model.specs.Instruction.{i_immediate, s_immediate, b_immediate, j_immediate}
 use Rattle.rv_decode.proofs.TableLaw.{decoded-sound}
 
 -- The parts of a word.

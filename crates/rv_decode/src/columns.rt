@@ -1,7 +1,8 @@
 //! The operation that stands in a row of the instruction listings, by the columns of its opcode.
 
 ghost use Rattle.std.specs.Prelude.{◌≡◌, ◌<◌, ◌^◌};
-ghost use Rattle.flat_model.specs.Rows.{branch_op, load_op, store_op, imm_op, word_imm_op, base_op, other_op, muldiv_op, reg_op, word_base_op, word_other_op, word_muldiv_op, word_reg_op, atomic_op, wide_at};
+ghost use Rattle.flat_model.specs.Rows.{branch_op, load_op, store_op, imm_op, word_imm_op, base_op, other_op, muldiv_op, reg_op};
+ghost use Rattle.flat_model.specs.Rows.{word_base_op, word_other_op, word_muldiv_op, word_reg_op, atomic_op, wide_at};
 
 use flat_model::{AtomicOp, BranchOp, ImmOp, LoadOp, RegOp, StoreOp};
 

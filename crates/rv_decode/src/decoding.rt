@@ -3,13 +3,14 @@
 ghost use Rattle.std.specs.Prelude.{◌≡◌, ◌<◌, ◌^◌, ◌↔◌, IfSome};
 ghost use Rattle.flat_model.specs.declared.instructions.Ins.{Ins};
 ghost use Rattle.flat_model.specs.Rows.{immediate_of, imm_op, word_imm_op, reg_op, word_reg_op};
-ghost use Rattle.flat_model.specs.Instruction.{decoded, decoded_as, Table, jalr_at, branch_at, load_at, store_at, imm_as, reg_as, atomic_at, fence_at, system_at, IsInRange, ImmediateInRange};
+ghost use Rattle.flat_model.specs.Instruction.{decoded, decoded_as, Table, jalr_at, branch_at, load_at, store_at, imm_as, reg_as};
+ghost use Rattle.flat_model.specs.Instruction.{atomic_at, fence_at, system_at, IsInRange, ImmediateInRange};
 
 use crate::columns::{
     atomic_op, branch_op, imm_op, load_op, reg_op, store_op, wide_at, word_imm_op, word_reg_op,
 };
 use crate::fields::{
-    b_immediate, field, flag, i_immediate, j_immediate, nibble, register, s_immediate,
+    b_immediate, field, flag, i_immediate, j_immediate, nibble, register_field, s_immediate,
 };
 use flat_model::{ImmOp, Ins, RegOp};
 
@@ -30,15 +31,15 @@ fn decoded_as(opcode: u32, word: u32) -> Option<Ins>
 {
     match opcode {
         0x37 => Some(Ins::Lui {
-            rd: register(word, 7),
+            rd: register_field(word, 7),
             top: field(word, 12, 20),
         }),
         0x17 => Some(Ins::Auipc {
-            rd: register(word, 7),
+            rd: register_field(word, 7),
             top: field(word, 12, 20),
         }),
         0x6f => Some(Ins::Jal {
-            rd: register(word, 7),
+            rd: register_field(word, 7),
             off: j_immediate(word),
         }),
         0x67 => jalr_at(word),
@@ -62,8 +63,8 @@ fn jalr_at(word: u32) -> Option<Ins>
 {
     if field(word, 12, 3) == 0 {
         Some(Ins::Jalr {
-            rd: register(word, 7),
-            rs1: register(word, 15),
+            rd: register_field(word, 7),
+            rs1: register_field(word, 15),
             off: i_immediate(word),
         })
     } else {
@@ -78,8 +79,8 @@ fn branch_at(word: u32) -> Option<Ins>
     let op = branch_op(field(word, 12, 3))?;
     Some(Ins::Branch {
         op,
-        rs1: register(word, 15),
-        rs2: register(word, 20),
+        rs1: register_field(word, 15),
+        rs2: register_field(word, 20),
         off: b_immediate(word),
     })
 }
@@ -91,8 +92,8 @@ fn load_at(word: u32) -> Option<Ins>
     let op = load_op(field(word, 12, 3))?;
     Some(Ins::Load {
         op,
-        rd: register(word, 7),
-        rs1: register(word, 15),
+        rd: register_field(word, 7),
+        rs1: register_field(word, 15),
         off: i_immediate(word),
     })
 }
@@ -104,8 +105,8 @@ fn store_at(word: u32) -> Option<Ins>
     let op = store_op(field(word, 12, 3))?;
     Some(Ins::Store {
         op,
-        rs1: register(word, 15),
-        rs2: register(word, 20),
+        rs1: register_field(word, 15),
+        rs2: register_field(word, 20),
         off: s_immediate(word),
     })
 }
@@ -129,8 +130,8 @@ fn imm_as(op: Option<ImmOp>, word: u32) -> Option<Ins>
     let op = op?;
     Some(Ins::Imm {
         op,
-        rd: register(word, 7),
-        rs1: register(word, 15),
+        rd: register_field(word, 7),
+        rs1: register_field(word, 15),
         imm: immediate_of(op, word),
     })
 }
@@ -142,9 +143,9 @@ fn reg_as(op: Option<RegOp>, word: u32) -> Option<Ins>
     let op = op?;
     Some(Ins::Reg {
         op,
-        rd: register(word, 7),
-        rs1: register(word, 15),
-        rs2: register(word, 20),
+        rd: register_field(word, 7),
+        rs1: register_field(word, 15),
+        rs2: register_field(word, 20),
     })
 }
 
@@ -153,7 +154,7 @@ fn atomic_at(word: u32) -> Option<Ins>
     ensures in_range { IfSome result IsInRange }
 {
     let wide = wide_at(field(word, 12, 3))?;
-    let rs2 = register(word, 20);
+    let rs2 = register_field(word, 20);
     let op = atomic_op(field(word, 27, 5), rs2)?;
     let (aq, rl) = (flag(word, 26), flag(word, 25));
     Some(Ins::Atomic {
@@ -161,8 +162,8 @@ fn atomic_at(word: u32) -> Option<Ins>
         wide,
         aq,
         rl,
-        rd: register(word, 7),
-        rs1: register(word, 15),
+        rd: register_field(word, 7),
+        rs1: register_field(word, 15),
         rs2,
     })
 }
@@ -171,7 +172,7 @@ fn fence_at(word: u32) -> Option<Ins>
     ensures value { result ≡ fence_at word }
     ensures in_range { IfSome result IsInRange }
 {
-    let (rd, rs1) = (register(word, 7), register(word, 15));
+    let (rd, rs1) = (register_field(word, 7), register_field(word, 15));
     match field(word, 12, 3) {
         0 => Some(Ins::Fence {
             fm: nibble(word, 28),

@@ -3,7 +3,10 @@
 ghost use Rattle.std.specs.Prelude.{◌≡◌, ◌+◌, ◌*◌, ◌/◌, ◌%◌, ◌^◌, ◌<◌, ◌≤◌, ℕ, ℤ, pos, neg_ℤ, ◌≤ℤ◌, ◌<ℤ◌};
 ghost use Rattle.flat_model.specs.declared.instructions.Ins.{Ins};
 ghost use Rattle.flat_model.specs.Rows.{IsImmediate, MayHaveSource};
-ghost use Rattle.flat_model.specs.Instruction.{Table, IsInRange, decoded, field, signed_at, opcode as opcode_of, funct3 as funct3_of, funct7 as funct7_of, rd_of, rs1_of, rs2_of, u_top, i_immediate, s_immediate, b_immediate, j_immediate, IsRegister, IsEven, IsTwelveBits, IsBranchOffset, IsJumpOffset, ImmediateInRange};
+ghost use Rattle.flat_model.specs.Instruction.{Table, IsInRange, decoded, field, signed_at, opcode as opcode_of, funct3 as funct3_of};
+ghost use Rattle.flat_model.specs.Instruction.{funct7 as funct7_of, rd_of, rs1_of, rs2_of, u_top, i_immediate, s_immediate, b_immediate};
+ghost use Rattle.flat_model.specs.Instruction.{j_immediate, IsRegister, IsEven, IsTwelveBits, IsBranchOffset, IsJumpOffset};
+ghost use Rattle.flat_model.specs.Instruction.{ImmediateInRange};
 
 use crate::fields::field;
 use crate::rows::{atomic_funct5, branch_funct3, imm_row, load_funct3, reg_row, store_funct3};

@@ -1,7 +1,8 @@
 //! The fields and immediates of a word.
 
 ghost use Rattle.std.specs.Prelude.{◌≡◌, ◌+◌, ◌*◌, ◌^◌, ◌<◌, ◌≤◌, ◌==◌, pos, neg_ℤ, ◌≤ℤ◌, ◌<ℤ◌, ◌%◌};
-ghost use Rattle.flat_model.specs.Instruction.{field, flag, signed_at, i_immediate, s_immediate, b_immediate, j_immediate, IsEven, IsTwelveBits, IsBranchOffset, IsJumpOffset};
+ghost use Rattle.flat_model.specs.Instruction.{field, flag, signed_at, i_immediate, s_immediate, b_immediate, j_immediate, IsEven};
+ghost use Rattle.flat_model.specs.Instruction.{IsTwelveBits, IsBranchOffset, IsJumpOffset};
 
 /// The `len` bits of `word` from bit `low` on.
 pub(crate) fn field(word: u32, low: u32, len: u32) -> u32
@@ -14,7 +15,7 @@ pub(crate) fn field(word: u32, low: u32, len: u32) -> u32
 }
 
 /// A register number: the five bits from `low` on.
-pub(crate) fn register(word: u32, low: u32) -> u8
+pub(crate) fn register_field(word: u32, low: u32) -> u8
     requires { low < 32 }
     ensures value { result ≡ field word low 5 }
     ensures bound { result < 32 }

@@ -1,13 +1,13 @@
 use Rattle.std.proofs.Common.{sym, ◌∙◌}
 use Rattle.elf_image.specs.Rules.{apart}
-use Rattle.elf_image.proofs.RuleLaws.{overlaps, lies_apart, overlap_none}
+use Rattle.elf_image.proofs.RuleLaws.{overlap_found, lies_apart, overlap_none}
 use Rattle.elf_image.proofs.rules.check_apart.Goals as goal
 
 pub returns-in-Some : goal.returns-in-Some
 unfolding apart
 returns-in-Some c =
     let at = sym c.in-Some.is ∙ c.overlap.ensures in
-    rw (sym c.requires) (sym c.loop-i.invariant ∙ overlaps c.args.loads.now c.loop-i.i _ c.in-Some.refusal c.loop-i-test.true at)
+    rw (sym c.requires) (sym c.loop-i.invariant ∙ overlap_found c.args.loads.now c.loop-i.i _ c.in-Some.refusal c.loop-i-test.true at)
 
 pub loop-i-preserved : goal.loop-i-preserved
 loop-i-preserved c =

@@ -1,4 +1,5 @@
 use Rattle.std.proofs.Common.{◌≡◌, ◌+◌, ◌*◌, ◌∙◌, find, Some, None, sym, ap, refl}
+use Rattle.elf_image.specs.declared.format.TheConstants.{PROGRAM_HEADER_BYTES}
 use Rattle.elf_image.specs.declared.refusals.ImageRefusal.TheVariants.{Interpreted}
 use Rattle.elf_image.specs.Fields.{e_phoff, headers, is_interpreter}
 use Rattle.elf_image.specs.Rules.{no_interpreter}
@@ -16,7 +17,7 @@ returns-then-header-eq-PT_INTERP c =
     let file = c.args.file.now in
     let e = found file c.header_count-index-end.result c.loop-index.index c.header.result c.loop-index-test.true c.header.ensures c.if-header-eq-PT_INTERP.true in
     let same : find is_interpreter (headers file) ≡ Some c.header.result = sym c.loop-index.invariant.rest ∙ e in
-    let place = ap (λ h. h.index) c.header.ensures ∙ header_index file (e_phoff file + 56 * c.loop-index.index) c.loop-index.index in
+    let place = ap (λ h. h.index) c.header.ensures ∙ header_index file (e_phoff file + PROGRAM_HEADER_BYTES * c.loop-index.index) c.loop-index.index in
     rw same (ap (λ n. Some (Interpreted n)) place)
 
 pub returns : goal.returns

@@ -14,7 +14,8 @@ widened : (z x : ℤ) → FitsSigned w64 z → x ≡ to_z w64 (of_z w64 z) → t
 widened z x h e =
     ap (λ v. to_z w128 (of_z w128 v)) (e ∙ to_z-of_z w64 z h) ∙ to_z-of_z w128 z (record { sfits = omega (arith, h.sfits) })
 
-product : (a b x y : ℤ) → FitsSigned w64 a → FitsSigned w64 b → x ≡ to_z w64 (of_z w64 a) → y ≡ to_z w64 (of_z w64 b) → to_z w128 (of_z w128 (to_z w128 (of_z w128 x) *ℤ to_z w128 (of_z w128 y))) ≡ a *ℤ b
+product : (a b x y : ℤ) → FitsSigned w64 a → FitsSigned w64 b → x ≡ to_z w64 (of_z w64 a) → y ≡ to_z w64 (of_z w64 b)
+    → to_z w128 (of_z w128 (to_z w128 (of_z w128 x) *ℤ to_z w128 (of_z w128 y))) ≡ a *ℤ b
 product a b x y f g d e =
     ap (λ v. to_z w128 (of_z w128 v)) (ap₂ (λ v w. v *ℤ w) (widened a x f d) (widened b y g e))
     ∙ to_z-of_z w128 (a *ℤ b) (fits_signed_mul w128 a b (2 ^ 63) (2 ^ 63) (size a f) (size b g) (omega arith))
