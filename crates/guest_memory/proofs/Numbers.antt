@@ -1,5 +1,6 @@
 -- Numbers and the bytes that hold them.
-use Rattle.std.proofs.Common.{◌≡◌, ℕ, zero, suc, ◌+◌, ◌-◌, ◌<◌, ◌≤◌, ◌++◌, List, [], ◌∷◌, length, take, drop, get_or, refl, ap, ◌∙◌, arith, drop-cons, append_assoc}
+use Rattle.std.proofs.Common.{◌≡◌, ℕ, zero, suc, ◌+◌, ◌-◌, ◌<◌, ◌≤◌, ◌++◌, List, [], ◌∷◌, length, take, drop, get_or, refl, ap, ◌∙◌}
+use Rattle.std.proofs.Common.{arith, drop-cons, append_assoc}
 use Rattle.std.proofs.lemmas.List.{get_or-drop, append-nil}
 use Rattle.std.proofs.Math.Path.{fun_ext}
 use Rattle.std.specs.Int.{sum_through, byte_worth, from_le_bytes, w64}
@@ -21,11 +22,13 @@ bytes_same b c addr zero e = refl
 bytes_same b c addr (suc n) e =
     let here : addr + 0 ≡ addr = omega arith in
     let first : b addr ≡ c addr = rw here at (e 0 (omega arith)) in
-    let rest = bytes_same b c (addr + 1) n (λ k below. let next : addr + suc k ≡ addr + 1 + k = omega arith in rw next at (e (suc k) (omega arith))) in
+    let rest = bytes_same b c (addr + 1) n (λ k below. let next : addr + suc k ≡ addr + 1 + k = omega arith in rw next at
+    (e (suc k) (omega arith))) in
     rw (first, rest) refl
 
 -- the bytes of a slice that begins at base
-pub bytes_in : (bs : List ℕ) (base addr n : ℕ) → base ≤ addr → addr + n ≤ base + length bs → bytes_from (λ at. get_or bs (at - base) 0) addr n ≡ take n (drop (addr - base) bs)
+pub bytes_in : (bs : List ℕ) (base addr n : ℕ) → base ≤ addr → addr + n ≤ base + length bs
+    → bytes_from (λ at. get_or bs (at - base) 0) addr n ≡ take n (drop (addr - base) bs)
 unfolding bytes_from
 bytes_in bs base addr zero low high = refl
 bytes_in bs base addr (suc n) low high =
@@ -54,7 +57,8 @@ bytes_joined b addr (suc m) k =
     rw (e, f) (ap (λ l. b addr ∷ l) (bytes_joined b (addr + 1) m k))
 
 -- bytes with a run appended, and what is left to append
-pub appended_more : (b : ℕ → ℕ) (before after : List ℕ) (addr m n : ℕ) → m ≤ n → after ≡ before ++ bytes_from b addr m → after ++ bytes_from b (addr + m) (n - m) ≡ before ++ bytes_from b addr n
+pub appended_more : (b : ℕ → ℕ) (before after : List ℕ) (addr m n : ℕ) → m ≤ n → after ≡ before ++ bytes_from b addr m
+    → after ++ bytes_from b (addr + m) (n - m) ≡ before ++ bytes_from b addr n
 appended_more b before after addr m n part e =
     let f : m + (n - m) ≡ n = omega arith in
     rw (e, append_assoc, ← bytes_joined, f) refl

@@ -1,5 +1,7 @@
 -- The opening memory.
-use Rattle.std.proofs.Common.{◌≡◌, ℕ, zero, suc, ◌+◌, ◌-◌, ◌*◌, ◌<◌, ◌≤◌, ◌++◌, ◌⊎◌, Bool, true, false, cond, List, [], ◌∷◌, length, map, get_or, Option, Some, None, replicate, option_map, unwrap_or, refl, sym, ap, ◌∙◌, arith, inl, inr, append_assoc}
+use Rattle.std.proofs.Common.{◌≡◌, ℕ, zero, suc, ◌+◌, ◌-◌, ◌*◌, ◌<◌, ◌≤◌, ◌++◌, ◌⊎◌, Bool, true, false, cond, List, [], ◌∷◌, length, map}
+use Rattle.std.proofs.Common.{get_or, Option, Some, None, replicate, option_map, unwrap_or, refl, sym, ap, ◌∙◌, arith, inl, inr}
+use Rattle.std.proofs.Common.{append_assoc}
 use Rattle.std.specs.List.{find, All, AllPairs, slice_index}
 use Rattle.std.specs.Option.{option_or}
 use Rattle.std.proofs.Math.Path.{fun_ext}
@@ -48,15 +50,21 @@ next_stack n regions few has =
         | inr a ↦ inr (omega (arith, a, few, long))
       ]);
       low = all_push (λ s. end_of s ≤ 0x4000000000) regions (stack_segment n) has.low (omega (arith, long, few));
-      beside = all_push (λ s. (end_of s ≤ 0x3FFFC00000) ⊎ (0x4000000000 ≤ s.base + suc n * 0x20000)) regions (stack_segment n) (λ k d below. elim (has.beside k d below) [
-        | inl a ↦ inl a
-        | inr a ↦ inr (omega (arith, a))
-      ]) (inr (omega (arith, few)));
+      beside = all_push (λ s. (end_of s ≤ 0x3FFFC00000) ⊎ (0x4000000000 ≤ s.base + suc n * 0x20000)) regions (stack_segment n)
+          (λ k d below. elim (has.beside k d below) [
+            | inl a ↦ inl a
+            | inr a ↦ inr (omega (arith, a))
+          ]) (inr (omega (arith, few)));
     }
 
 has_stacks : (image : Program) (n : ℕ) → n ≤ 32 → IsImage image → HasStacks n (with_stacks image.regions n)
 unfolding with_stacks
-has_stacks image zero few is = record { apart = is.apart; low = λ k d below. let l = is.low k d below in omega arith; beside = λ k d below. inl (is.low k d below) }
+has_stacks image zero few is = record {
+  apart = is.apart;
+  low = λ k d below. let l = is.low k d below in omega arith;
+  beside = λ k d
+      below. inl (is.low k d below);
+}
 has_stacks image (suc n) few is = next_stack n (with_stacks image.regions n) (omega arith) (has_stacks image n (omega arith) is)
 
 pub opening_laid : (image : Program) (n : ℕ) → n ≤ 32 → IsImage image → IsLaidOut (with_stacks image.regions n)
@@ -73,13 +81,19 @@ spans_are : (regions : List Segment) (n : ℕ) → map span_of (with_stacks regi
 unfolding with_stacks
 spans_are regions zero = sym (append_nil (map span_of regions))
 spans_are regions (suc n) =
-    map-append span_of (with_stacks regions n) (stack_segment n ∷ []) ∙ ap (λ (l : List Span). l ++ span_of (stack_segment n) ∷ []) (spans_are regions n) ∙ ap (λ (m : ℕ). (map span_of regions ++ stacks n) ++ sized n m ∷ []) stack_long ∙ append_assoc (map span_of regions) (stacks n) (stack_of n ∷ [])
+    map-append span_of (with_stacks regions n) (stack_segment n ∷ [])
+    ∙ ap (λ (l : List Span). l ++ span_of (stack_segment n) ∷ []) (spans_are regions n)
+    ∙ ap (λ (m : ℕ). (map span_of regions ++ stacks n) ++ sized n m ∷ []) stack_long
+    ∙ append_assoc (map span_of regions) (stacks n) (stack_of n ∷ [])
 
-stack_reads : (a n : ℕ) (b : Bool) → unwrap_or (option_map (λ (s : Segment). slice_index s.bytes (a - s.base)) (cond b (Some (stack_segment n)) None)) 0 ≡ 0
+stack_reads : (a n : ℕ) (b : Bool) → unwrap_or (option_map (λ (s : Segment). slice_index s.bytes (a - s.base))
+    (cond b (Some (stack_segment n)) None)) 0 ≡ 0
 stack_reads a n true = stack_zero (a - stack_base n)
 stack_reads a n false = refl
 
-either_read : (a n : ℕ) (b : Bool) (o : Option Segment) → unwrap_or (option_map (λ (s : Segment). slice_index s.bytes (a - s.base)) (option_or o (cond b (Some (stack_segment n)) None))) 0 ≡ unwrap_or (option_map (λ (s : Segment). slice_index s.bytes (a - s.base)) o) 0
+either_read : (a n : ℕ) (b : Bool) (o : Option Segment)
+    → unwrap_or (option_map (λ (s : Segment). slice_index s.bytes (a - s.base)) (option_or o (cond b (Some (stack_segment n)) None))) 0
+    ≡ unwrap_or (option_map (λ (s : Segment). slice_index s.bytes (a - s.base)) o) 0
 either_read a n b None = stack_reads a n b
 either_read a n b (Some s) = refl
 
@@ -87,9 +101,12 @@ bytes_are : (regions : List Segment) (n a : ℕ) → opening_bytes (with_stacks 
 unfolding with_stacks
 bytes_are regions zero a = refl
 bytes_are regions (suc n) a =
-    ap (λ (o : Option Segment). unwrap_or (option_map (λ (s : Segment). slice_index s.bytes (a - s.base)) o) 0) (find-append (holds a 1) (with_stacks regions n) (stack_segment n ∷ [])) ∙ either_read a n (holds a 1 (stack_segment n)) (find (holds a 1) (with_stacks regions n)) ∙ bytes_are regions n a
+    ap (λ (o : Option Segment). unwrap_or (option_map (λ (s : Segment). slice_index s.bytes (a - s.base)) o) 0)
+    (find-append (holds a 1) (with_stacks regions n) (stack_segment n ∷ []))
+    ∙ either_read a n (holds a 1 (stack_segment n)) (find (holds a 1) (with_stacks regions n)) ∙ bytes_are regions n a
 
-pub opens : (image : Program) (harts : ℕ) (regions : List Segment) (xs : List (Option ℕ)) → regions ≡ with_stacks image.regions harts → xs ≡ replicate harts None → IsOpening image harts (record { regions = regions; reservations = xs })
+pub opens : (image : Program) (harts : ℕ) (regions : List Segment) (xs : List (Option ℕ)) → regions ≡ with_stacks image.regions harts
+    → xs ≡ replicate harts None → IsOpening image harts (record { regions = regions; reservations = xs })
 opens image harts regions xs a b = record {
   spans = ap (map span_of) a ∙ spans_are image.regions harts;
   bytes = ap opening_bytes a ∙ fun_ext (λ k. bytes_are image.regions harts k);
@@ -108,6 +125,8 @@ pub none_yet : (regions xs : List Segment) → xs ≡ regions → xs ≡ with_st
 unfolding with_stacks
 none_yet regions xs e = e
 
-pub one_more : (regions xs ys : List Segment) (n : ℕ) (s : Segment) → xs ≡ with_stacks regions n → s ≡ stack_segment n → ys ≡ xs ++ s ∷ [] → ys ≡ with_stacks regions (n + 1)
+pub one_more : (regions xs ys : List Segment) (n : ℕ) (s : Segment) → xs ≡ with_stacks regions n → s ≡ stack_segment n → ys ≡ xs ++ s ∷ []
+    → ys ≡ with_stacks regions (n + 1)
 unfolding with_stacks
-one_more regions xs ys n s a b e = let next : n + 1 ≡ suc n = omega arith in rw next (e ∙ ap (λ (l : List Segment). l ++ s ∷ []) a ∙ ap (λ (t : Segment). with_stacks regions n ++ t ∷ []) b)
+one_more regions xs ys n s a b e = let next : n + 1 ≡ suc n = omega arith in rw next
+    (e ∙ ap (λ (l : List Segment). l ++ s ∷ []) a ∙ ap (λ (t : Segment). with_stacks regions n ++ t ∷ []) b)

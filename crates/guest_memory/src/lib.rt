@@ -3,6 +3,7 @@
 #![tactic(auto)]
 
 pub use memory::{Denied, Memory};
+pub use regions::Near;
 
 mod bytes;
 mod memory;

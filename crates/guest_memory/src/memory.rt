@@ -3,10 +3,11 @@
 ghost use Rattle.std.specs.Prelude.{◌≡◌, ◌+◌, ◌-◌, ◌%◌, ◌^◌, ◌<◌, ◌≤◌, ◌++◌, Some, true, false, MatchResult, IfOk, vec_len, vec_capacity};
 ghost use Rattle.flat_model.specs.Access.{bytes_from};
 ghost use Rattle.flat_model.specs.Permission.{Readable, may};
-ghost use Rattle.guest_memory.specs.Memory.{Kept, IsOpening, IsLoad, IsStore, IsNoStore, IsReserved, IsConditional, spans_in, bytes_of, harts_of};
+ghost use Rattle.guest_memory.specs.Memory.{MemoryState, IsOpening, IsLoad, IsStore, IsNoStore, IsReserved};
+ghost use Rattle.guest_memory.specs.Memory.{IsConditional, spans_in, bytes_of, harts_of};
 
 use crate::opening::{no_reservations, opening_regions};
-use crate::regions::{Access, append, load, permits, size, store, store_if};
+use crate::regions::{Access, Near, append, load, permits, size, store, store_if};
 use crate::reservations::{conclude, end_others, is_reserved};
 use flat_model::{Image, NoMemory, Region};
 use std::alloc::Global;
@@ -24,9 +25,9 @@ pub struct Memory {
 }
 
 impl Model for Memory {
-    ghost use Rattle.guest_memory.specs.Memory.{Kept, IsLaidOut};
+    ghost use Rattle.guest_memory.specs.Memory.{MemoryState, IsLaidOut};
 
-    ghost Value = { Kept };
+    ghost Value = { MemoryState };
 
     ghost view = { λ a. record { regions = a.regions.items; reservations = a.reservations.items } };
 
@@ -52,9 +53,20 @@ impl Memory {
     /// The little-endian number of the 2^shift bytes from `addr`.
     pub fn read(&self, addr: u64, shift: u8) -> Result<u64, Denied>
         requires size { shift ≤ 3 }
-        ensures cases { MatchResult result (λ value. IsLoad (spans_in self.now) (bytes_of self.now) addr (2 ^ shift) value) (λ _. may (spans_in self.now) Readable addr (2 ^ shift) ≡ false) }
+        ensures cases { MatchResult result (λ value. IsLoad (spans_in self.now) (bytes_of self.now) addr (2 ^ shift) value)
+            (λ _. may (spans_in self.now) Readable addr (2 ^ shift) ≡ false) }
     {
-        match load(&self.regions, addr, shift) {
+        self.read_near(&mut Near::default(), addr, shift)
+    }
+
+    /// `read`, which looks first where the hart's last access lay.
+    #[inline(always)]
+    pub fn read_near(&self, near: &mut Near, addr: u64, shift: u8) -> Result<u64, Denied>
+        requires size { shift ≤ 3 }
+        ensures cases { MatchResult result (λ value. IsLoad (spans_in self.now) (bytes_of self.now) addr (2 ^ shift) value)
+            (λ _. may (spans_in self.now) Readable addr (2 ^ shift) ≡ false) }
+    {
+        match load(&self.regions, near, addr, shift) {
             Some(value) => Ok(value),
             None => Err(Denied),
         }
@@ -65,9 +77,28 @@ impl Memory {
     pub fn write(&mut self, hart: u8, addr: u64, shift: u8, value: u64) -> Result<(), Denied>
         requires hart { hart < harts_of self.old }
         requires size { shift ≤ 3 }
-        ensures cases { MatchResult result (λ _. IsStore self.old self.new hart addr (2 ^ shift) value) (λ _. IsNoStore self.old self.new addr (2 ^ shift)) }
+        ensures cases { MatchResult result (λ _. IsStore self.old self.new hart addr (2 ^ shift) value)
+            (λ _. IsNoStore self.old self.new addr (2 ^ shift)) }
     {
-        if !store(&mut self.regions, addr, shift, value) {
+        self.write_near(&mut Near::default(), hart, addr, shift, value)
+    }
+
+    /// `write`, which looks first where the hart's last access lay.
+    #[inline(always)]
+    pub fn write_near(
+        &mut self,
+        near: &mut Near,
+        hart: u8,
+        addr: u64,
+        shift: u8,
+        value: u64,
+    ) -> Result<(), Denied>
+        requires hart { hart < harts_of self.old }
+        requires size { shift ≤ 3 }
+        ensures cases { MatchResult result (λ _. IsStore self.old self.new hart addr (2 ^ shift) value)
+            (λ _. IsNoStore self.old self.new addr (2 ^ shift)) }
+    {
+        if !store(&mut self.regions, near, addr, shift, value) {
             return Err(Denied);
         }
         end_others(&mut self.reservations, hart as usize, addr, size(shift));
@@ -94,7 +125,8 @@ impl Memory {
         requires hart { hart < harts_of self.old }
         requires size { shift ≤ 3 }
         requires aligned { addr % 2 ^ shift ≡ 0 }
-        ensures cases { MatchResult result (λ done. IsConditional self.old self.new hart addr (2 ^ shift) value done) (λ _. IsNoStore self.old self.new addr (2 ^ shift)) }
+        ensures cases { MatchResult result (λ done. IsConditional self.old self.new hart addr (2 ^ shift) value done)
+            (λ _. IsNoStore self.old self.new addr (2 ^ shift)) }
     {
         let reserved = is_reserved(addr, size(shift), self.reservations[hart as usize]);
         if !store_if(&mut self.regions, reserved, addr, shift, value) {

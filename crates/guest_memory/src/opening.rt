@@ -3,11 +3,9 @@
 ghost use Rattle.std.specs.Prelude.{◌≡◌, ◌≤◌, ◌<◌, IfOk, replicate, None};
 ghost use Rattle.guest_memory.specs.Memory.{stack_bytes, stack_segment, with_stacks};
 
+use flat_model::limits::{STACK_BYTES, STACK_STRIDE, STACKS_END};
 use flat_model::{Image, NoMemory, Region};
 use std::alloc::Global;
-
-/// The bytes of a stack.
-const STACK_BYTES: usize = 0x10000;
 
 /// The image's regions and a stack for each hart.
 pub fn opening_regions(alloc: Global, image: &Image, harts: u8) -> Result<Vec<Region>, NoMemory>
@@ -51,9 +49,9 @@ fn stack(alloc: Global, hart: u8) -> Result<Region, NoMemory>
     requires { hart < 32 }
     ensures { IfOk result (λ region. region ≡ stack_segment hart) }
 {
-    let bytes = zeros(alloc, STACK_BYTES)?;
+    let bytes = zeros(alloc, STACK_BYTES as usize)?;
     Ok(Region {
-        base: 0x40_0000_0000 - (hart as u64 + 1) * 0x2_0000,
+        base: STACKS_END - (hart as u64 + 1) * STACK_STRIDE,
         bytes,
         r: true,
         w: true,

@@ -1,15 +1,18 @@
 //! Accesses of the regions.
 
-ghost use Rattle.std.specs.Prelude.{◌≡◌, ℕ, ◌+◌, ◌-◌, ◌^◌, ◌<◌, ◌≤◌, ◌&&◌, ◌++◌, true, false, take, drop, length, map, position, slice_index, slice_set, MatchOption, MatchBool, IfSome, IfNone, vec_len, vec_capacity};
+ghost use Rattle.std.specs.Prelude.{◌≡◌, ℕ, ◌+◌, ◌-◌, ◌^◌, ◌<◌, ◌≤◌, ◌&&◌, ◌++◌, true, false, take, drop, length, map};
+ghost use Rattle.std.specs.Prelude.{position, slice_index, slice_set, MatchOption, MatchBool, IfSome, IfNone, vec_len};
+ghost use Rattle.std.specs.Prelude.{vec_capacity};
 ghost use Rattle.std.specs.List.{list_any};
 ghost use Rattle.flat_model.specs.Image.{Segment, end_of, holds};
 ghost use Rattle.flat_model.specs.Permission.{Permission, Readable, Writable, grants, span_of, may, may_byte};
 ghost use Rattle.flat_model.specs.World.{opening_bytes};
 ghost use Rattle.flat_model.specs.Access.{loaded, bytes_from, bytes_of_number};
-ghost use Rattle.guest_memory.specs.Memory.{IsLaidOut, IsWritten, IsLoad, permission_of, serves, IsPlace};
+ghost use Rattle.guest_memory.specs.Memory.{IsLaidOut, IsWritten, IsLoad, permission_of, admits, IsPlace};
 
 use crate::bytes::{bytes_of_number, number, number_at, put_number};
 use flat_model::Region;
+use flat_model::limits::STACK_STRIDE;
 
 /// What a load and a store ask for.
 #[derive(Clone, Copy)]
@@ -55,14 +58,18 @@ fn grants(region: &Region, access: Access) -> bool
 
 /// Whether the region grants the access to all `n` bytes from `addr`.
 #[inline(always)]
-fn serves(region: &Region, access: Access, addr: u64, n: u64) -> bool
-    ensures { result ≡ serves access addr n region.now }
+fn admits(region: &Region, access: Access, addr: u64, n: u64) -> bool
+    ensures { result ≡ admits access addr n region.now }
 {
     grants(region, access) && has(region, addr, n)
 }
 
-/// How far one stack begins before the next.
-const STACK_STEP: u64 = 0x2_0000;
+/// Where a hart's last access lay: the place of a region to look at first. It is a guess, which is checked at each
+/// access.
+#[derive(Clone, Copy, Debug, Default, PartialEq, Eq)]
+pub struct Near {
+    place: usize,
+}
 
 /// The place to look at first, which may be a wrong one: that of the stack which the address tells, or else of
 /// the last region that begins by the address, as in an image whose regions ascend.
@@ -70,7 +77,7 @@ const STACK_STEP: u64 = 0x2_0000;
 fn likely(regions: &[Region], addr: u64) -> usize {
     match regions.last() {
         Some(last) if last.base <= addr => {
-            let later = (addr - last.base) / STACK_STEP;
+            let later = (addr - last.base) / STACK_STRIDE;
             regions.len().saturating_sub(later as usize + 1)
         }
         _ => regions
@@ -82,23 +89,37 @@ fn likely(regions: &[Region], addr: u64) -> usize {
 /// The first place of a region that grants the access to all `n` bytes from `addr`.
 #[inline(never)]
 fn search(regions: &[Region], access: Access, addr: u64, n: u64) -> Option<usize>
-    ensures first { result ≡ position (serves access addr n) regions.now }
+    ensures first { result ≡ position (admits access addr n) regions.now }
 {
     regions
         .iter()
-        .position(|region| serves(region, access, addr, n))
+        .position(|region| admits(region, access, addr, n))
 }
 
-/// The place of a region that grants the access to all `n` bytes from `addr`.
-#[inline(always)]
-fn place(regions: &[Region], access: Access, addr: u64, n: u64) -> Option<usize>
-    ensures place { MatchOption result (list_any (serves access addr n) regions.now ≡ false) (λ i. IsPlace access addr n regions.now i) }
+/// The place of a region that grants the access to all `n` bytes from `addr`, from the likely one on.
+#[inline(never)]
+fn far(regions: &[Region], access: Access, addr: u64, n: u64) -> Option<usize>
+    ensures place { MatchOption result (list_any (admits access addr n) regions.now ≡ false) (λ i. IsPlace access addr n regions.now i) }
 {
     let guess = likely(regions, addr);
-    if guess < regions.len() && serves(&regions[guess], access, addr, n) {
+    if guess < regions.len() && admits(&regions[guess], access, addr, n) {
         return Some(guess);
     }
     search(regions, access, addr, n)
+}
+
+/// The place of a region that grants the access to all `n` bytes from `addr`: the near one where it does.
+#[inline(always)]
+fn place(regions: &[Region], near: &mut Near, access: Access, addr: u64, n: u64) -> Option<usize>
+    ensures place { MatchOption result (list_any (admits access addr n) regions.now ≡ false) (λ i. IsPlace access addr n regions.now i) }
+{
+    let last = near.place;
+    if last < regions.len() && admits(&regions[last], access, addr, n) {
+        return Some(last);
+    }
+    let found = far(regions, access, addr, n)?;
+    near.place = found;
+    Some(found)
 }
 
 /// The number of the region's bytes from `addr` on.
@@ -117,7 +138,7 @@ pub fn permits(regions: &[Region], access: Access, addr: u64, n: u64) -> bool
     let mut at = addr;
     let mut left = n;
     while left > 0 {
-        let Some(place) = place(regions, access, at, 1) else {
+        let Some(place) = far(regions, access, at, 1) else {
             return false;
         };
         let run = run(&regions[place], at);
@@ -142,13 +163,13 @@ fn number_in(region: &Region, addr: u64, shift: u8) -> u64
 
 /// The load in one region.
 #[inline(always)]
-fn load_within(regions: &[Region], addr: u64, shift: u8) -> Option<u64>
+fn load_within(regions: &[Region], near: &mut Near, addr: u64, shift: u8) -> Option<u64>
     requires size { shift ≤ 3 }
     requires laid_out { IsLaidOut regions.now }
-    ensures none { IfNone result (list_any (serves Access.Read addr (2 ^ shift)) regions.now ≡ false) }
+    ensures none { IfNone result (list_any (admits Access.Read addr (2 ^ shift)) regions.now ≡ false) }
     ensures load { IfSome result (λ v. IsLoad (map span_of regions.now) (opening_bytes regions.now) addr (2 ^ shift) v) }
 {
-    let place = place(regions, Access::Read, addr, size(shift))?;
+    let place = place(regions, near, Access::Read, addr, size(shift))?;
     Some(number_in(&regions[place], addr, shift))
 }
 
@@ -163,9 +184,10 @@ fn byte_in(region: &Region, addr: u64) -> u8
 /// The byte at `addr`, where it may be read.
 fn byte_at(regions: &[Region], addr: u64) -> Option<u8>
     requires { IsLaidOut regions.now }
-    ensures { MatchOption result (may_byte (map span_of regions.now) Readable addr ≡ false) (λ b. (may_byte (map span_of regions.now) Readable addr ≡ true) × (b ≡ opening_bytes regions.now addr)) }
+    ensures { MatchOption result (may_byte (map span_of regions.now) Readable addr ≡ false)
+        (λ b. (may_byte (map span_of regions.now) Readable addr ≡ true) × (b ≡ opening_bytes regions.now addr)) }
 {
-    let place = place(regions, Access::Read, addr, 1)?;
+    let place = far(regions, Access::Read, addr, 1)?;
     Some(byte_in(&regions[place], addr))
 }
 
@@ -174,7 +196,8 @@ fn byte_at(regions: &[Region], addr: u64) -> Option<u8>
 fn load_across(regions: &[Region], addr: u64, shift: u8) -> Option<u64>
     requires size { shift ≤ 3 }
     requires laid_out { IsLaidOut regions.now }
-    ensures { MatchOption result (may (map span_of regions.now) Readable addr (2 ^ shift) ≡ false) (λ v. IsLoad (map span_of regions.now) (opening_bytes regions.now) addr (2 ^ shift) v) }
+    ensures { MatchOption result (may (map span_of regions.now) Readable addr (2 ^ shift) ≡ false)
+        (λ v. IsLoad (map span_of regions.now) (opening_bytes regions.now) addr (2 ^ shift) v) }
 {
     let mut raw = [0u8; 8];
     let size = size(shift) as usize;
@@ -187,12 +210,13 @@ fn load_across(regions: &[Region], addr: u64, shift: u8) -> Option<u64>
 
 /// The little-endian number of the 2^shift bytes from `addr`, where they may be read.
 #[inline(always)]
-pub fn load(regions: &[Region], addr: u64, shift: u8) -> Option<u64>
+pub fn load(regions: &[Region], near: &mut Near, addr: u64, shift: u8) -> Option<u64>
     requires size { shift ≤ 3 }
     requires laid_out { IsLaidOut regions.now }
-    ensures { MatchOption result (may (map span_of regions.now) Readable addr (2 ^ shift) ≡ false) (λ v. IsLoad (map span_of regions.now) (opening_bytes regions.now) addr (2 ^ shift) v) }
+    ensures { MatchOption result (may (map span_of regions.now) Readable addr (2 ^ shift) ≡ false)
+        (λ v. IsLoad (map span_of regions.now) (opening_bytes regions.now) addr (2 ^ shift) v) }
 {
-    match load_within(regions, addr, shift) {
+    match load_within(regions, near, addr, shift) {
         Some(value) => Some(value),
         None => load_across(regions, addr, shift),
     }
@@ -203,7 +227,10 @@ pub fn load(regions: &[Region], addr: u64, shift: u8) -> Option<u64>
 fn put_in(region: &mut Region, addr: u64, shift: u8, value: u64)
     requires size { shift ≤ 3 }
     requires inside { holds addr (2 ^ shift) region.old ≡ true }
-    ensures { let i = addr - region.old.base in region.new ≡ record region.old { bytes = take i region.old.bytes ++ (take (2 ^ shift) (bytes_of_number value) ++ drop (i + 2 ^ shift) region.old.bytes) } }
+    ensures { let i = addr - region.old.base in region.new ≡ record region.old {
+      bytes = take i region.old.bytes ++
+          (take (2 ^ shift) (bytes_of_number value) ++ drop (i + 2 ^ shift) region.old.bytes);
+    } }
 {
     let place = (addr - region.base) as usize;
     put_number(&mut region.bytes, place, shift, value);
@@ -211,15 +238,15 @@ fn put_in(region: &mut Region, addr: u64, shift: u8, value: u64)
 
 /// The store in one region, and whether there is one.
 #[inline(always)]
-fn store_within(regions: &mut [Region], addr: u64, shift: u8, value: u64) -> bool
+fn store_within(regions: &mut [Region], near: &mut Near, addr: u64, shift: u8, value: u64) -> bool
     requires size { shift ≤ 3 }
     requires laid_out { IsLaidOut regions.old }
     ensures permitted { result ≡ true → may (map span_of regions.old) Writable addr (2 ^ shift) ≡ true }
     ensures written { result ≡ true → IsWritten regions.old regions.new addr (2 ^ shift) value }
-    ensures none { result ≡ false → list_any (serves Access.Write addr (2 ^ shift)) regions.old ≡ false }
+    ensures none { result ≡ false → list_any (admits Access.Write addr (2 ^ shift)) regions.old ≡ false }
     ensures unchanged { result ≡ false → regions.new ≡ regions.old }
 {
-    let Some(place) = place(regions, Access::Write, addr, size(shift)) else {
+    let Some(place) = place(regions, near, Access::Write, addr, size(shift)) else {
         return false;
     };
     put_in(&mut regions[place], addr, shift, value);
@@ -234,22 +261,23 @@ fn store_across(regions: &mut [Region], addr: u64, shift: u8, value: u64)
     requires permitted { may (map span_of regions.old) Writable addr (2 ^ shift) ≡ true }
     ensures { IsWritten regions.old regions.new addr (2 ^ shift) value }
 {
+    let mut near = Near::default();
     let raw = bytes_of_number(value);
     for k in 0..size(shift) {
-        store_within(regions, addr + k, 0, raw[k as usize] as u64);
+        store_within(regions, &mut near, addr + k, 0, raw[k as usize] as u64);
     }
 }
 
 /// Stores the 2^shift low bytes of a number at `addr`, and answers whether that is permitted.
 #[inline(always)]
-pub fn store(regions: &mut [Region], addr: u64, shift: u8, value: u64) -> bool
+pub fn store(regions: &mut [Region], near: &mut Near, addr: u64, shift: u8, value: u64) -> bool
     requires size { shift ≤ 3 }
     requires laid_out { IsLaidOut regions.old }
     ensures permitted { result ≡ may (map span_of regions.old) Writable addr (2 ^ shift) }
     ensures written { result ≡ true → IsWritten regions.old regions.new addr (2 ^ shift) value }
     ensures unchanged { result ≡ false → regions.new ≡ regions.old }
 {
-    if store_within(regions, addr, shift, value) {
+    if store_within(regions, near, addr, shift, value) {
         return true;
     }
     if !permits(regions, Access::Write, addr, size(shift)) {
@@ -270,7 +298,7 @@ pub fn store_if(regions: &mut [Region], reserved: bool, addr: u64, shift: u8, va
     ensures unchanged { result ≡ false → regions.new ≡ regions.old }
 {
     if reserved {
-        store(regions, addr, shift, value)
+        store(regions, &mut Near::default(), addr, shift, value)
     } else {
         permits(regions, Access::Write, addr, size(shift))
     }
@@ -300,7 +328,7 @@ pub fn append(regions: &[Region], addr: u64, n: u64, out: &mut Vec<u8>)
     let mut at = addr;
     let mut left = n;
     while left > 0 {
-        let Some(place) = place(regions, Access::Read, at, 1) else {
+        let Some(place) = far(regions, Access::Read, at, 1) else {
             return;
         };
         let region = &regions[place];

@@ -1,11 +1,11 @@
 //! The reservations of the harts.
 
 ghost use Rattle.std.specs.Prelude.{◌≡◌, ℕ, ◌+◌, ◌<◌, ◌≤◌, ◌^◌, length, slice_index_or, None, ◌&&◌, nat_le, if◌then◌else◌};
-ghost use Rattle.flat_model.specs.Access.{meets, left_by, ended, is_reserved, with_reservation};
+ghost use Rattle.flat_model.specs.Access.{touches, left_by, ended, is_reserved, with_reservation};
 
 /// Whether the 8 bytes reserved at `a` share one with the `n` from `addr`.
-fn meets(addr: u64, n: u64, a: u64) -> bool
-    ensures { result ≡ meets addr n a }
+fn touches(addr: u64, n: u64, a: u64) -> bool
+    ensures { result ≡ touches addr n a }
 {
     if addr <= a {
         a - addr < n
@@ -14,19 +14,22 @@ fn meets(addr: u64, n: u64, a: u64) -> bool
     }
 }
 
-/// Ends the reservations of the other harts that a hart's store of `n` bytes meets.
+/// Ends the reservations of the other harts that a hart's store of `n` bytes touches.
 pub fn end_others(reservations: &mut [Option<u64>], hart: usize, addr: u64, n: u64)
-    ensures others { (k : ℕ) → k < length reservations.old → slice_index_or reservations.new k None ≡ ended (λ j. slice_index_or reservations.old j None) hart addr n k }
+    ensures others { (k : ℕ) → k < length reservations.old → slice_index_or reservations.new k None
+        ≡ ended (λ j. slice_index_or reservations.old j None) hart addr n k }
 {
     for (k, reservation) in reservations.iter_mut().enumerate() {
         *reservation = left(k == hart, addr, n, *reservation);
     }
 }
 
-/// Ends the hart's own reservation and, where it stored `n` bytes, those of other harts that the store meets.
+/// Ends the hart's own reservation and, where it stored `n` bytes, those of other harts that the store touches.
 pub fn conclude(reservations: &mut [Option<u64>], hart: usize, stored: bool, addr: u64, n: u64)
     requires { hart < length reservations.old }
-    ensures concluded { (k : ℕ) → k < length reservations.old → slice_index_or reservations.new k None ≡ with_reservation (if stored then ended (λ j. slice_index_or reservations.old j None) hart addr n else (λ j. slice_index_or reservations.old j None)) hart None k }
+    ensures concluded { (k : ℕ) → k < length reservations.old → slice_index_or reservations.new k None
+        ≡ with_reservation (if stored then ended (λ j. slice_index_or reservations.old j None) hart addr n
+        else (λ j. slice_index_or reservations.old j None)) hart None k }
 {
     if stored {
         end_others(reservations, hart, addr, n);
@@ -51,7 +54,7 @@ fn left_by(addr: u64, n: u64, reservation: Option<u64>) -> Option<u64>
     ensures { result ≡ left_by addr n reservation }
 {
     match reservation {
-        Some(a) if !meets(addr, n, a) => reservation,
+        Some(a) if !touches(addr, n, a) => reservation,
         _ => None,
     }
 }

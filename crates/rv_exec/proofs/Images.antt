@@ -17,7 +17,8 @@ and_no : (a : Bool) → (a && false) ≡ false
 and_no true = refl
 and_no false = refl
 
-pub code_and_data : (code kept : Segment) (entry : ℕ) → end_of code ≤ kept.base → end_of kept ≤ 0x3FFFC00000 → code.w ≡ false → kept.x ≡ false → entry % 4 ≡ 0
+pub code_and_data : (code kept : Segment) (entry : ℕ) → end_of code ≤ kept.base → end_of kept ≤ 0x3FFFC00000 → code.w ≡ false
+    → kept.x ≡ false → entry % 4 ≡ 0
     → IsImage (record { regions = code ∷ kept ∷ []; entry = entry })
 code_and_data code kept entry apart low unwritable no_code aligned = record {
   apart = pairs_of_two AreApart code kept (inl apart);

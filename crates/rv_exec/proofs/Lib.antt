@@ -1,3 +1,8 @@
+pub mod Afterwards
 pub mod Amos
-mod Images
+pub mod Blocks
+pub mod Images
+pub mod Openings
+pub mod Registers
 pub mod Stepping
+pub mod Whose

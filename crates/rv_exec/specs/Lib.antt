@@ -1,2 +1,4 @@
-pub mod Going
+pub mod Logged
 pub mod Sharing
+pub mod Going
+pub mod Laws

@@ -1,16 +1,16 @@
 //! LR, SC and the AMOs (RISC-V Unprivileged ISA 20191213, chapter 8).
 
-ghost use Rattle.std.specs.Prelude.{◌≡◌, ◌<◌, ◌≤◌, ◌+◌, ◌%◌, ◌^◌, length, not, false, if◌then◌else◌};
-ghost use Rattle.flat_model.specs.Arithmetic.{atomic_shift};
+ghost use Rattle.std.specs.Prelude.{◌≡◌, ◌<◌, ◌≤◌, ◌+◌, ◌%◌, ◌==◌, length};
 ghost use Rattle.flat_model.specs.Outcome.{loads_reserved, stores_conditional, modifies, operates, operates_aligned, atomic_size};
 ghost use Rattle.guest_memory.specs.Memory.{spans_in, harts_of};
-ghost use Rattle.rv_exec.specs.Going.{GoesOnAligned};
-ghost use Rattle.rv_exec.specs.Sharing.{shared_of, IsAccess, KeepsLayout};
+ghost use Rattle.rv_exec.specs.Going.{HasBegun, EndsAccess};
+ghost use Rattle.rv_exec.specs.Sharing.{shared_of, KeepsLayout};
 
-use crate::effects::gives;
+use crate::endings::{fail, give};
 use crate::harts::Hart;
 use crate::raw_logs::RawLog;
-use flat_model::{AtomicOp, Done, FaultKind, What};
+use flat_model::limits::{READS, READS_AND_WRITES, WRITES};
+use flat_model::{AtomicOp, FaultKind, What};
 use guest_memory::Memory;
 use rv_alu::{amo_result, atomic_result, atomic_shift, low_bytes};
 
@@ -25,67 +25,64 @@ pub(crate) struct Operation {
     pub value: u64,
 }
 
-/// The event of an atomic access: a load of W is sign-extended.
-fn access(hart: &Hart, wide: bool, addr: u64, store: bool, value: u64) -> What
-    ensures access { result ≡ What.Mem hart.now.pc addr (atomic_shift wide) (if store then false else not wide) store value }
-{
-    What::Mem {
-        pc: hart.pc,
-        addr,
-        shift: atomic_shift(wide),
-        signed: !store && !wide,
-        store,
-        value,
-    }
-}
-
-/// Carries out LR at an aligned address.
+/// Carries out LR at an aligned address up to the end of its step.
 fn load_reserved(
     no: u8,
-    hart: &Hart,
+    hart: &mut Hart,
     memory: &mut Memory,
     what: Operation,
+    limit: u64,
     raw: &mut RawLog,
-) -> Done
+)
+    requires begun { HasBegun hart.old }
     requires no { no < harts_of memory.old }
     requires rd { what.rd < 32 }
-    requires steps { hart.now.steps + 1 < 2 ^ 64 }
-    requires room { length raw.old + 2 ≤ 2048 }
-    ensures carried_out { IsAccess (λ output group. loads_reserved (spans_in memory.old) no hart.now (shared_of memory.old output group) what.wide what.rd what.addr) memory.new no (hart.now.steps + 1) result raw.old raw.new }
+    requires room { length raw.old.events + 2 ≤ 2048 }
+    ensures ended { EndsAccess (λ services. loads_reserved (spans_in memory.old) no hart.old
+        (shared_of memory.old services) what.wide what.rd what.addr) limit no hart.old hart.new memory.new raw.old raw.new }
     ensures layout { KeepsLayout memory.old memory.new }
-    ensures aligned { GoesOnAligned result }
-    ensures few { length raw.new ≤ length raw.old + 2 }
 {
     let Operation { wide, rd, addr, .. } = what;
-    match memory.read(addr, atomic_shift(wide)) {
-        Ok(value) => {
+    let shift = atomic_shift(wide);
+    match memory.read(addr, shift) {
+        Ok(bits) => {
             memory.reserve(no, addr);
-            raw.log(no, hart.steps + 1, access(hart, wide, addr, false, value));
-            gives(hart, rd, atomic_result(wide, value))
+            raw.log(
+                no,
+                hart.steps,
+                What::Mem {
+                    pc: hart.pc,
+                    addr,
+                    shift,
+                    signed: !wide,
+                    rw: READS,
+                    read: bits,
+                    written: 0,
+                },
+            );
+            give(no, hart, rd, atomic_result(wide, bits), limit, raw);
         }
-        Err(_) => Done::Fails {
-            kind: FaultKind::Load,
-        },
+        Err(_) => fail(no, hart, FaultKind::Load, raw),
     }
 }
 
-/// Carries out SC at an aligned address.
+/// Carries out SC at an aligned address up to the end of its step.
 fn store_conditional(
     no: u8,
-    hart: &Hart,
+    hart: &mut Hart,
     memory: &mut Memory,
     what: Operation,
+    limit: u64,
     raw: &mut RawLog,
-) -> Done
+)
+    requires begun { HasBegun hart.old }
     requires no { no < harts_of memory.old }
     requires rd { what.rd < 32 }
     requires address { what.addr % atomic_size what.wide ≡ 0 }
-    requires steps { hart.now.steps + 1 < 2 ^ 64 }
-    requires room { length raw.old + 2 ≤ 2048 }
-    ensures carried_out { IsAccess (λ output group. stores_conditional (spans_in memory.old) no hart.now (shared_of memory.old output group) what.wide what.rd what.addr what.value) memory.new no (hart.now.steps + 1) result raw.old raw.new }
+    requires room { length raw.old.events + 2 ≤ 2048 }
+    ensures ended { EndsAccess (λ services. stores_conditional (spans_in memory.old) no hart.old
+        (shared_of memory.old services) what.wide what.rd what.addr what.value) limit no hart.old hart.new memory.new raw.old raw.new }
     ensures layout { KeepsLayout memory.old memory.new }
-    ensures aligned { GoesOnAligned result }
-    ensures few { length raw.new ≤ length raw.old + 2 }
 {
     let Operation {
         wide,
@@ -99,28 +96,41 @@ fn store_conditional(
         Ok(true) => {
             raw.log(
                 no,
-                hart.steps + 1,
-                access(hart, wide, addr, true, low_bytes(value, shift)),
+                hart.steps,
+                What::Mem {
+                    pc: hart.pc,
+                    addr,
+                    shift,
+                    signed: false,
+                    rw: WRITES,
+                    read: 0,
+                    written: low_bytes(value, shift),
+                },
             );
-            gives(hart, rd, 0)
+            give(no, hart, rd, 0, limit, raw);
         }
-        Ok(false) => gives(hart, rd, 1),
-        Err(_) => Done::Fails {
-            kind: FaultKind::Store,
-        },
+        Ok(false) => give(no, hart, rd, 1, limit, raw),
+        Err(_) => fail(no, hart, FaultKind::Store, raw),
     }
 }
 
-/// Carries out an AMO at an aligned address.
-fn modify(no: u8, hart: &Hart, memory: &mut Memory, what: Operation, raw: &mut RawLog) -> Done
+/// Carries out an AMO at an aligned address up to the end of its step.
+fn modify(
+    no: u8,
+    hart: &mut Hart,
+    memory: &mut Memory,
+    what: Operation,
+    limit: u64,
+    raw: &mut RawLog,
+)
+    requires begun { HasBegun hart.old }
     requires no { no < harts_of memory.old }
     requires rd { what.rd < 32 }
-    requires steps { hart.now.steps + 1 < 2 ^ 64 }
-    requires room { length raw.old + 2 ≤ 2048 }
-    ensures carried_out { IsAccess (λ output group. modifies (spans_in memory.old) no hart.now (shared_of memory.old output group) what.op what.wide what.rd what.addr what.value) memory.new no (hart.now.steps + 1) result raw.old raw.new }
+    requires room { length raw.old.events + 2 ≤ 2048 }
+    ensures ended { EndsAccess (λ services. modifies (spans_in memory.old) no hart.old
+        (shared_of memory.old services) what.op what.wide what.rd what.addr what.value) limit no hart.old hart.new memory.new raw.old
+        raw.new }
     ensures layout { KeepsLayout memory.old memory.new }
-    ensures aligned { GoesOnAligned result }
-    ensures few { length raw.new ≤ length raw.old + 2 }
 {
     let Operation {
         op,
@@ -131,69 +141,82 @@ fn modify(no: u8, hart: &Hart, memory: &mut Memory, what: Operation, raw: &mut R
     } = what;
     let shift = atomic_shift(wide);
     let Ok(found) = memory.read(addr, shift) else {
-        return Done::Fails {
-            kind: FaultKind::Store,
-        };
+        return fail(no, hart, FaultKind::Store, raw);
     };
     let new = amo_result(op, wide, found, value);
     let Ok(()) = memory.write(no, addr, shift, new) else {
-        return Done::Fails {
-            kind: FaultKind::Store,
-        };
+        return fail(no, hart, FaultKind::Store, raw);
     };
-    let step = hart.steps + 1;
-    raw.log(no, step, access(hart, wide, addr, false, found));
-    raw.log(no, step, access(hart, wide, addr, true, new));
-    gives(hart, rd, atomic_result(wide, found))
+    raw.log(
+        no,
+        hart.steps,
+        What::Mem {
+            pc: hart.pc,
+            addr,
+            shift,
+            signed: !wide,
+            rw: READS_AND_WRITES,
+            read: found,
+            written: new,
+        },
+    );
+    give(no, hart, rd, atomic_result(wide, found), limit, raw);
 }
 
-/// Carries out an LR, SC or AMO at an aligned address.
+/// Carries out an LR, SC or AMO at an aligned address up to the end of its step.
 fn operate_aligned(
     no: u8,
-    hart: &Hart,
+    hart: &mut Hart,
     memory: &mut Memory,
     what: Operation,
+    limit: u64,
     raw: &mut RawLog,
-) -> Done
+)
+    requires begun { HasBegun hart.old }
     requires no { no < harts_of memory.old }
     requires rd { what.rd < 32 }
     requires address { what.addr % atomic_size what.wide ≡ 0 }
-    requires steps { hart.now.steps + 1 < 2 ^ 64 }
-    requires room { length raw.old + 2 ≤ 2048 }
-    ensures carried_out { IsAccess (λ output group. operates_aligned (spans_in memory.old) no hart.now (shared_of memory.old output group) what.op what.wide what.rd what.addr what.value) memory.new no (hart.now.steps + 1) result raw.old raw.new }
+    requires room { length raw.old.events + 2 ≤ 2048 }
+    ensures ended { EndsAccess (λ services. operates_aligned (spans_in memory.old) no hart.old
+        (shared_of memory.old services) what.op what.wide what.rd what.addr what.value) limit no hart.old hart.new memory.new raw.old
+        raw.new }
     ensures layout { KeepsLayout memory.old memory.new }
-    ensures aligned { GoesOnAligned result }
-    ensures few { length raw.new ≤ length raw.old + 2 }
 {
     match what.op {
-        AtomicOp::Lr => load_reserved(no, hart, memory, what, raw),
-        AtomicOp::Sc => store_conditional(no, hart, memory, what, raw),
-        _ => modify(no, hart, memory, what, raw),
+        AtomicOp::Lr => load_reserved(no, hart, memory, what, limit, raw),
+        AtomicOp::Sc => store_conditional(no, hart, memory, what, limit, raw),
+        _ => modify(no, hart, memory, what, limit, raw),
     }
 }
 
-/// Carries out an LR, SC or AMO, and logs its events.
+/// Whether the address is naturally aligned.
+fn is_aligned(wide: bool, addr: u64) -> bool
+    ensures aligned { result ≡ (addr % atomic_size wide == 0) }
+{
+    if wide { addr % 8 == 0 } else { addr % 4 == 0 }
+}
+
+/// Carries out an LR, SC or AMO up to the end of its step.
+#[inline(never)]
 pub(crate) fn operate(
     no: u8,
-    hart: &Hart,
+    hart: &mut Hart,
     memory: &mut Memory,
     what: Operation,
+    limit: u64,
     raw: &mut RawLog,
-) -> Done
+)
+    requires begun { HasBegun hart.old }
     requires no { no < harts_of memory.old }
     requires rd { what.rd < 32 }
-    requires steps { hart.now.steps + 1 < 2 ^ 64 }
-    requires room { length raw.old + 2 ≤ 2048 }
-    ensures carried_out { IsAccess (λ output group. operates (spans_in memory.old) no hart.now (shared_of memory.old output group) what.op what.wide what.rd what.addr what.value) memory.new no (hart.now.steps + 1) result raw.old raw.new }
+    requires room { length raw.old.events + 2 ≤ 2048 }
+    ensures ended { EndsAccess (λ services. operates (spans_in memory.old) no hart.old
+        (shared_of memory.old services) what.op what.wide what.rd what.addr what.value) limit no hart.old hart.new memory.new raw.old
+        raw.new }
     ensures layout { KeepsLayout memory.old memory.new }
-    ensures aligned { GoesOnAligned result }
-    ensures few { length raw.new ≤ length raw.old + 2 }
 {
-    let size = if what.wide { 8 } else { 4 };
-    if what.addr % size != 0 {
-        return Done::Fails {
-            kind: FaultKind::MisalignedAtomic,
-        };
+    if !is_aligned(what.wide, what.addr) {
+        return fail(no, hart, FaultKind::MisalignedAtomic, raw);
     }
-    operate_aligned(no, hart, memory, what, raw)
+    operate_aligned(no, hart, memory, what, limit, raw);
 }

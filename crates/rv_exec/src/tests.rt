@@ -1,12 +1,12 @@
 //! Steps of small programs.
 
-ghost use Rattle.std.specs.Prelude.{◌≡◌, ◌≤◌, ◌+◌, ◌*◌, ◌^◌, length, IfOk};
+ghost use Rattle.std.specs.Prelude.{◌≡◌, ◌<◌, ◌≤◌, ◌+◌, ◌*◌, ◌^◌, true, length, IfOk};
 ghost use Rattle.flat_model.specs.Blocks.{length_of, length_within};
 ghost use Rattle.guest_memory.specs.Memory.{harts_of};
 ghost use Rattle.rv_exec.specs.Sharing.{IsMemoryOf};
 
-use crate::{Hart, Private, RawLog, Services, private_step, shared_step};
-use flat_model::{Ending, Event, FaultKind, Image, NoMemory, Region, What};
+use crate::{Hart, HartStart, Private, RawLog, Services, private_step, shared_step};
+use flat_model::{Ending, Event, FaultKind, Image, Mode, NoMemory, Region, What};
 use guest_memory::Memory;
 use rv_decode::{decode, ends_block};
 use std::alloc::{AllocError, Global};
@@ -102,7 +102,7 @@ fn length_of(image: &Image, pc: u64) -> u32
     length_within(image, pc, left as u32)
 }
 
-/// A run of one hart.
+/// A run of which hart 0 makes the steps.
 #[derive(Drop)]
 struct Run {
     image: Image,
@@ -113,15 +113,18 @@ struct Run {
 }
 
 impl Run {
-    fn new(alloc: Global, words: &[u32]) -> Result<Run, NoMemory>
+    fn new(alloc: Global, words: &[u32], harts: u8, mode: Mode) -> Result<Run, NoMemory>
+        requires some { 1 ≤ harts }
+        requires most { harts ≤ 32 }
         ensures memory { IfOk result (λ run. IsMemoryOf run.image run.memory) }
-        ensures one_hart { IfOk result (λ run. harts_of run.memory ≡ 1) }
+        ensures some { IfOk result (λ run. 1 ≤ harts_of run.memory) }
+        ensures starts { IfOk result (λ run. length run.services.starts ≡ harts_of run.memory) }
+        ensures kept { IfOk result (λ run. run.raw.kept ≡ true) }
     {
         let image = image(alloc, words)?;
-        let memory = Memory::new(alloc, &image, 1)?;
-        let mut services = Services::new(alloc);
-        services.output.reserve(4096)?;
-        let hart = Hart::first(&image, 0, 1);
+        let memory = Memory::new(alloc, &image, harts)?;
+        let services = Services::new(alloc, &image, harts, mode)?;
+        let hart = Hart::first(&image, 0, harts, mode);
         let raw = RawLog::new(alloc)?;
         Ok(Run {
             image,
@@ -133,15 +136,19 @@ impl Run {
     }
 
     /// One step with what the harts share.
-    fn step(&mut self, rt: &impl Abort)
+    fn step(&mut self, rt: &impl Abort) -> Result<(), NoMemory>
         requires memory { IsMemoryOf self.old.image self.old.memory }
-        requires one_hart { harts_of self.old.memory ≡ 1 }
+        requires some { 1 ≤ harts_of self.old.memory }
+        requires starts { length self.old.services.starts ≡ harts_of self.old.memory }
+        requires kept { self.old.raw.kept ≡ true }
         ensures memory { IsMemoryOf self.new.image self.new.memory }
-        ensures one_hart { harts_of self.new.memory ≡ 1 }
+        ensures some { 1 ≤ harts_of self.new.memory }
+        ensures starts { length self.new.services.starts ≡ harts_of self.new.memory }
+        ensures kept { self.new.raw.kept ≡ true }
     {
-        let output = &self.services.output;
-        assert!(rt; output.capacity().saturating_sub(output.len()) >= 4096);
+        self.services.make_room()?;
         assert!(rt; self.services.group.is_none());
+        assert!(rt; !self.hart.parked);
         assert!(rt; self.hart.ending.is_none());
         assert!(rt; self.hart.steps < LIMIT);
         assert!(rt; self.hart.pc <= 1 << 62);
@@ -157,23 +164,32 @@ impl Run {
             n,
             &mut self.raw,
         );
+        Ok(())
     }
 
     /// Steps until the hart has ended.
-    fn finish(&mut self, rt: &impl Abort)
+    fn finish(&mut self, rt: &impl Abort) -> Result<(), NoMemory>
         requires memory { IsMemoryOf self.old.image self.old.memory }
-        requires one_hart { harts_of self.old.memory ≡ 1 }
+        requires some { 1 ≤ harts_of self.old.memory }
+        requires starts { length self.old.services.starts ≡ harts_of self.old.memory }
+        requires kept { self.old.raw.kept ≡ true }
+        ensures kept { self.new.raw.kept ≡ true }
     {
         for _ in 0..LIMIT {
             if self.hart.ending.is_some() {
-                return;
+                return Ok(());
             }
-            self.step(rt);
+            self.step(rt)?;
         }
+        Ok(())
     }
 
     /// One step that touches nothing that is shared, if the next is one.
-    fn step_alone(&mut self, rt: &impl Abort) -> Private {
+    fn step_alone(&mut self, rt: &impl Abort) -> Private
+        requires kept { self.old.raw.kept ≡ true }
+        ensures kept { self.new.raw.kept ≡ true }
+    {
+        assert!(rt; !self.hart.parked);
         assert!(rt; self.hart.ending.is_none());
         assert!(rt; self.hart.steps < LIMIT);
         assert!(rt; self.hart.pc <= 1 << 62);
@@ -197,7 +213,7 @@ fn insn(step: u64, pc: u64, word: u32) -> Event {
 
 #[test]
 fn a_jump_to_itself_ends_with_the_last_step_of_its_limit(rt: HostRuntime) -> Result<(), Fail> {
-    let mut run = Run::new(rt.alloc(), &[JUMP_TO_ITSELF])?;
+    let mut run = Run::new(rt.alloc(), &[JUMP_TO_ITSELF], 1, Mode::All)?;
     for _ in 0..LIMIT {
         assert_eq!(rt; run.hart.ending, None);
         assert_eq!(rt; run.step_alone(&rt), Private::Did);
@@ -210,7 +226,7 @@ fn a_jump_to_itself_ends_with_the_last_step_of_its_limit(rt: HostRuntime) -> Res
 
 #[test]
 fn a_load_is_no_step_of_a_hart_alone(rt: HostRuntime) -> Result<(), Fail> {
-    let mut run = Run::new(rt.alloc(), &[LOAD])?;
+    let mut run = Run::new(rt.alloc(), &[LOAD], 1, Mode::All)?;
     assert_eq!(rt; run.step_alone(&rt), Private::Shared);
     assert_eq!(rt; run.hart.pc, CODE);
     assert_eq!(rt; run.hart.steps, 0);
@@ -260,8 +276,8 @@ fn programs_end_after_their_steps_and_blocks(rt: HostRuntime) -> Result<(), Fail
         ),
     ];
     for (words, ending, steps, blocks) in rows {
-        let mut run = Run::new(rt.alloc(), words)?;
-        run.finish(&rt);
+        let mut run = Run::new(rt.alloc(), words, 1, Mode::All)?;
+        run.finish(&rt)?;
         assert_eq!(rt; run.hart.ending, Some(ending));
         assert_eq!(rt; run.hart.steps, steps);
         assert_eq!(rt; run.hart.blocks, blocks);
@@ -270,7 +286,7 @@ fn programs_end_after_their_steps_and_blocks(rt: HostRuntime) -> Result<(), Fail
 }
 
 #[test]
-fn an_amo_tells_its_load_and_then_its_store(rt: HostRuntime) -> Result<(), Fail> {
+fn an_amo_tells_one_access(rt: HostRuntime) -> Result<(), Fail> {
     let words = [
         0x0002_02B7,
         0x0050_0313,
@@ -279,23 +295,20 @@ fn an_amo_tells_its_load_and_then_its_store(rt: HostRuntime) -> Result<(), Fail>
         0x05D0_0893,
         ECALL,
     ];
-    let mut run = Run::new(rt.alloc(), &words)?;
-    run.finish(&rt);
-    let access = |store, value| What::Mem {
+    let mut run = Run::new(rt.alloc(), &words, 1, Mode::All)?;
+    run.finish(&rt)?;
+    let access = What::Mem {
         pc: 0x10008,
         addr: 0x20000,
         shift: 3,
         signed: false,
-        store,
-        value,
+        rw: 3,
+        read: 0,
+        written: 5,
     };
-    let want = [
-        insn(3, 0x10008, 0x0062_B3AF),
-        event(3, access(false, 0)),
-        event(3, access(true, 5)),
-    ];
+    let want = [insn(3, 0x10008, 0x0062_B3AF), event(3, access)];
     // Behind Init, Block and the two Insn of the first two steps.
-    assert_eq!(rt; run.raw.events().get(4..7), Some(want.as_slice()));
+    assert_eq!(rt; run.raw.events().get(4..6), Some(want.as_slice()));
     assert_eq!(rt; run.hart.ending, Some(Ending::Exited(0)));
     assert_eq!(rt; run.hart.steps, 6);
     assert_eq!(rt; run.hart.blocks, 1);
@@ -304,8 +317,8 @@ fn an_amo_tells_its_load_and_then_its_store(rt: HostRuntime) -> Result<(), Fail>
 
 #[test]
 fn an_exit_tells_its_call_and_no_answer(rt: HostRuntime) -> Result<(), Fail> {
-    let mut run = Run::new(rt.alloc(), &EXIT_0)?;
-    run.finish(&rt);
+    let mut run = Run::new(rt.alloc(), &EXIT_0, 1, Mode::All)?;
+    run.finish(&rt)?;
     let ending = Ending::Exited(0);
     let want = [
         event(1, What::Init),
@@ -328,35 +341,38 @@ fn an_exit_tells_its_call_and_no_answer(rt: HostRuntime) -> Result<(), Fail> {
     Ok(())
 }
 
-/// One step at an ECALL with these numbers in a7, a0, a1 and a2.
+/// One step at an ECALL of hart 0 with these numbers in a7, a0, a1 and a2.
 fn called(
     rt: &impl Abort,
     alloc: Global,
-    number: u64,
-    a0: u64,
-    a1: u64,
-    a2: u64,
-) -> Result<Run, NoMemory> {
-    let mut run = Run::new(alloc, &[ECALL])?;
-    run.hart.x[17] = number;
-    run.hart.x[10] = a0;
-    run.hart.x[11] = a1;
-    run.hart.x[12] = a2;
-    run.step(rt);
+    harts: u8,
+    mode: Mode,
+    numbers: [u64; 4],
+) -> Result<Run, NoMemory>
+    requires some { 1 ≤ harts }
+    requires most { harts ≤ 32 }
+    ensures starts { IfOk result (λ run. 1 ≤ length run.services.starts) }
+{
+    let mut run = Run::new(alloc, &[ECALL], harts, mode)?;
+    run.hart.x[17] = numbers[0];
+    run.hart.x[10] = numbers[1];
+    run.hart.x[11] = numbers[2];
+    run.hart.x[12] = numbers[3];
+    run.step(rt)?;
     Ok(run)
 }
 
 #[test]
 fn services_answer_and_append(rt: HostRuntime) -> Result<(), Fail> {
     let rows = [
-        (64, 7, 0, 0, -9, 0),
-        (64, 1, 0x20FFF, 2, -14, 0),
-        (64, 1, STACK, 5000, 4096, 4096),
-        (64, 2, 0, 0, 0, 0),
-        (1000, 0, 0, 0, -38, 0),
+        ([64, 7, 0, 0], -9, 0),
+        ([64, 1, 0x20FFF, 2], -14, 0),
+        ([64, 1, STACK, 5000], 4096, 4096),
+        ([64, 2, 0, 0], 0, 0),
+        ([1000, 0, 0, 0], -38, 0),
     ];
-    for (number, a0, a1, a2, answer, written) in rows {
-        let run = called(&rt, rt.alloc(), number, a0, a1, a2)?;
+    for (numbers, answer, written) in rows {
+        let run = called(&rt, rt.alloc(), 1, Mode::All, numbers)?;
         assert_eq!(rt; run.hart.x[10].cast_signed(), answer);
         assert_eq!(rt; run.hart.ending, None);
         assert_eq!(rt; run.services.output.len(), written);
@@ -368,8 +384,31 @@ fn services_answer_and_append(rt: HostRuntime) -> Result<(), Fail> {
 }
 
 #[test]
+fn a_parked_hart_is_started_once(rt: HostRuntime) -> Result<(), Fail> {
+    let start = HartStart {
+        pc: 0x10020,
+        arg: 7,
+    };
+    let rows = [
+        (2, Mode::First, [4096, 1, 0x10020, 7], 0, Some(start)),
+        (2, Mode::First, [4096, 1, 0x10022, 7], -22, None),
+        (2, Mode::First, [4096, 2, 0x10020, 7], -22, None),
+        (2, Mode::First, [4096, 0, 0x10020, 7], -16, None),
+        (1, Mode::First, [4096, 1, 0x10020, 7], -22, None),
+    ];
+    for (harts, mode, numbers, answer, started) in rows {
+        let run = called(&rt, rt.alloc(), harts, mode, numbers)?;
+        assert_eq!(rt; run.hart.x[10].cast_signed(), answer);
+        assert_eq!(rt; run.services.starts.get(1).copied().flatten(), started);
+    }
+    let run = called(&rt, rt.alloc(), 2, Mode::All, [4096, 1, 0x10020, 7])?;
+    assert_eq!(rt; run.hart.x[10].cast_signed(), -16);
+    Ok(())
+}
+
+#[test]
 fn exit_group_ends_the_group_with_its_code(rt: HostRuntime) -> Result<(), Fail> {
-    let run = called(&rt, rt.alloc(), 94, 3, 0, 0)?;
+    let run = called(&rt, rt.alloc(), 1, Mode::All, [94, 3, 0, 0])?;
     assert_eq!(rt; run.hart.ending, Some(Ending::Group));
     assert_eq!(rt; run.services.group, Some(3));
     Ok(())

@@ -13,5 +13,6 @@ invariant-loop-left l = record {
   room : vec_len l.out + l.left ≤ vec_capacity l.out;
   len : vec_len l.out + l.left ≡ vec_len l.initial.out + l.n;
   capacity : vec_capacity l.initial.out ≤ vec_capacity l.out;
-  bytes : l.out.items ++ bytes_from (opening_bytes l.regions) l.at l.left ≡ l.initial.out.items ++ bytes_from (opening_bytes l.regions) l.addr l.n;
+  bytes : l.out.items ++ bytes_from (opening_bytes l.regions) l.at l.left ≡ l.initial.out.items ++ bytes_from
+      (opening_bytes l.regions) l.addr l.n;
 }

@@ -9,5 +9,6 @@ returns-in_err-place c = rw c.from_residual.ensures (may_none Read c.args.addr c
 pub returns : goal.returns
 returns c = (
   may_first Read c.args.regions.now c.in_ok-place.place c.args.addr c.requires c.in_ok-place.ensures.place,
-  c.byte_in.ensures ∙ byte_found c.args.regions.now c.in_ok-place.place c.args.addr c.index-regions-place.result c.requires c.in_ok-place.ensures.place c.index-regions-place.is,
+  c.byte_in.ensures ∙ byte_found c.args.regions.now c.in_ok-place.place c.args.addr c.index-regions-place.result c.requires
+      c.in_ok-place.ensures.place c.index-regions-place.is,
 )

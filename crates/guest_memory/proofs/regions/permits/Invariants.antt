@@ -7,4 +7,5 @@ abbrev pub decreases-loop-left : goal.decreases-loop-left
 decreases-loop-left l = l.left
 
 abbrev pub invariant-loop-left : goal.invariant-loop-left
-invariant-loop-left l = may (map span_of l.regions) (permission_of l.access) l.at l.left ≡ may (map span_of l.regions) (permission_of l.access) l.addr l.n
+invariant-loop-left l = may (map span_of l.regions) (permission_of l.access) l.at l.left ≡ may (map span_of l.regions)
+    (permission_of l.access) l.addr l.n
