@@ -1,9 +1,11 @@
 -- The length as a number is the length of the block.
-use Rattle.std.proofs.Common.{◌≡◌, ◌+◌, ◌-◌, ◌*◌, ◌/◌, ◌%◌, ◌<◌, ◌≤◌, ◌⊎◌, ℕ, zero, suc, min, cond, Bool, true, false, Option, Some, None, is_some, IsSome, refl, sym, ◌∙◌, ap, subst, inl, inr, arith}
+use Rattle.std.proofs.Common.{◌≡◌, ◌+◌, ◌-◌, ◌*◌, ◌/◌, ◌%◌, ◌<◌, ◌≤◌, ◌⊎◌, ℕ, zero, suc, min, cond, Bool}
+use Rattle.std.proofs.Common.{true, false, Option, Some, None, is_some, IsSome, refl, sym, ◌∙◌, ap, subst, inl, inr, arith}
 use Rattle.std.specs.Option.{option_map_or}
 use Rattle.std.proofs.lemmas.Bool.{false≢true, cases_order}
 use Rattle.flat_model.specs.Image.{Program, word_at}
-use Rattle.flat_model.specs.Blocks.{word_ends, EndsAt, StopsAfter, IsLength, counted, length_within, length_of, LengthIsOne, LengthIsComputed}
+use Rattle.flat_model.specs.Blocks.{word_ends, EndsAt, StopsAfter, IsLength, counted}
+use Rattle.flat_model.specs.Blocks.{length_within, length_of, LengthIsOne, LengthIsComputed}
 
 -- n is the length of the block at pc where so many words are in reach
 record IsWithin (image : Program) (pc left n : ℕ) : Type 0 where
@@ -107,7 +109,8 @@ pub length_is_computed : LengthIsComputed
 unfolding length_of
 length_is_computed image pc aligned =
     let left = min 512 ((4096 - pc % 4096) / 4) in
-    long image pc left (length_within image pc left) (omega (arith, aligned)) (omega (arith, aligned)) (reach pc left aligned refl) (within image pc left)
+    long image pc left (length_within image pc left) (omega (arith, aligned)) (omega (arith, aligned))
+    (reach pc left aligned refl) (within image pc left)
 
 -- no length is shorter than another
 shorter : (image : Program) (pc n m : ℕ) → StopsAfter image pc n → IsLength image pc m → n < m → ⊥

@@ -1,25 +1,11 @@
 -- How a walk comes to the words of a block one by one.
-use Rattle.std.proofs.Common.{◌≡◌, ◌+◌, ◌-◌, ◌*◌, ◌/◌, ◌%◌, ◌<◌, ℕ, suc, min, cond, Bool, true, false, List, [], ◌∷◌, ◌++◌, length, None, refl, sym, ◌∙◌, ap, subst, arith}
+use Rattle.std.proofs.Common.{◌≡◌, ◌+◌, ◌-◌, ◌*◌, ◌/◌, ◌%◌, ◌<◌, ℕ, suc, min, cond, Bool, true, false, None, refl, sym, ◌∙◌, ap, arith}
 use Rattle.std.specs.Option.{option_map_or}
 use Rattle.flat_model.specs.Image.{Program, word_at}
 use Rattle.flat_model.specs.Instruction.{ends_block}
 use Rattle.flat_model.specs.Blocks.{counted, length_within, length_of}
 use Rattle.block_finder.specs.declared.blocks.Site.{Site}
-use Rattle.block_finder.specs.Block.{IsSite, AreSites}
-
--- one word more
-pub sites_push : (image : Program) (pc : ℕ) (sites : List Site) (site : Site)
-    → AreSites image pc sites → IsSite image (pc + 4 * length sites) site → AreSites image pc (sites ++ site ∷ [])
-sites_push image pc [] site before is =
-    let e : pc + 4 * 0 ≡ pc = omega arith in
-    (subst (λ at. IsSite image at site) e is, tt)
-sites_push image pc (first ∷ sites) site before is =
-    let e : pc + 4 * length (first ∷ sites) ≡ pc + 4 + 4 * length sites = omega arith in
-    (before.0, sites_push image (pc + 4) sites site before.1 (subst (λ at. IsSite image at site) e is))
-
-pub length_push : (sites : List Site) (site : Site) → length (sites ++ site ∷ []) ≡ length sites + 1
-length_push [] site = refl
-length_push (first ∷ sites) site = omega (arith, length_push sites site)
+use Rattle.block_finder.specs.Block.{IsSite}
 
 -- before the first word, all of them are to come
 pub all_to_come : (image : Program) (pc end : ℕ) → end ≡ min 512 ((4096 - pc % 4096) / 4)
@@ -57,11 +43,12 @@ absent_next image first place end within absent =
 
 behind_site : (image : Program) (pc more : ℕ) (site : Site) → IsSite image pc site
     → counted (word_at image pc) more ≡ cond (option_map_or ends_block site.ins true) 1 (suc more)
-behind_site image pc more site is = rw (is.present, is.legal) refl
+behind_site image pc more site is = rw (is.present, is.decodes) refl
 
 by_site : (image : Program) (first place end : ℕ) (site : Site) (ends : Bool) → place < end → IsSite image (first + 4 * place) site
     → ends ≡ option_map_or ends_block site.ins true
-    → length_within image (first + 4 * place) (end - place) ≡ cond ends 1 (suc (length_within image (first + 4 * (place + 1)) (end - (place + 1))))
+    → length_within image (first + 4 * place) (end - place)
+    ≡ cond ends 1 (suc (length_within image (first + 4 * (place + 1)) (end - (place + 1))))
 by_site image first place end site ends within is same =
     let more = length_within image (first + 4 * (place + 1)) (end - (place + 1)) in
     by_next image first place end within
@@ -71,13 +58,16 @@ by_site image first place end site ends within is same =
 -- behind a word that ends the block there is none
 pub ends_here : (image : Program) (first place end : ℕ) (site : Site) → place < end → IsSite image (first + 4 * place) site
     → true ≡ option_map_or ends_block site.ins true
-    → place + 1 + length_within image (first + 4 * (place + 1)) (place + 1 - (place + 1)) ≡ place + length_within image (first + 4 * place) (end - place)
+    → place + 1 + length_within image (first + 4 * (place + 1)) (place + 1 - (place + 1))
+    ≡ place + length_within image (first + 4 * place) (end - place)
 ends_here image first place end site within is same =
-    omega (arith, by_site image first place end site true within is same, none_in_reach image (first + 4 * (place + 1)) (place + 1) (place + 1) refl)
+    let none = none_in_reach image (first + 4 * (place + 1)) (place + 1) (place + 1) refl in
+    omega (arith, by_site image first place end site true within is same, none)
 
 -- behind another one there is one less
 pub goes_on : (image : Program) (first place end : ℕ) (site : Site) → place < end → IsSite image (first + 4 * place) site
     → false ≡ option_map_or ends_block site.ins true
-    → place + 1 + length_within image (first + 4 * (place + 1)) (end - (place + 1)) ≡ place + length_within image (first + 4 * place) (end - place)
+    → place + 1 + length_within image (first + 4 * (place + 1)) (end - (place + 1))
+    ≡ place + length_within image (first + 4 * place) (end - place)
 goes_on image first place end site within is same =
     omega (arith, by_site image first place end site false within is same)

@@ -1,2 +1,4 @@
 pub mod Block
 pub mod Walks
+pub mod Caches
+pub mod Lending

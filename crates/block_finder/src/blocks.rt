@@ -4,7 +4,7 @@ ghost use Rattle.std.specs.Prelude.{◌≡◌, true};
 ghost use Rattle.std.specs.Option.{option_map_or};
 ghost use Rattle.flat_model.specs.Instruction.{ends_block};
 
-use flat_model::Ins;
+use flat_model::{Class, Ins};
 use rv_decode::ends_block;
 use std::marker::Model;
 
@@ -16,6 +16,8 @@ pub struct Site {
     pub word: u32,
     /// The word's instruction; `None` where the word is illegal.
     pub ins: Option<Ins>,
+    /// The word's class; `Illegal` where it has no instruction.
+    pub class: Class,
 }
 
 impl Site {

@@ -1,6 +1,7 @@
 //! A block, and how long it is.
 
 ghost use Rattle.std.specs.Prelude.{◌≡◌, ◌%◌, ◌≤◌, IfOk};
+ghost use Rattle.flat_model.specs.declared.limits.TheConstants.{BLOCK_WORDS};
 ghost use Rattle.flat_model.specs.Blocks.{length_of};
 ghost use Rattle.block_finder.specs.Block.{IsBlock};
 
@@ -13,7 +14,7 @@ use std::alloc::Global;
 pub fn length(image: &Image, pc: u64) -> u32
     requires aligned { pc % 4 ≡ 0 }
     ensures computed { result ≡ length_of image.now pc }
-    ensures most { result ≤ 512 }
+    ensures most { result ≤ BLOCK_WORDS }
 {
     let mut walk = Walk::new(pc);
     while walk.next(image).is_some() {}
@@ -25,7 +26,6 @@ pub fn length(image: &Image, pc: u64) -> u32
 pub fn find(alloc: Global, image: &Image, pc: u64) -> Result<Block, NoMemory>
     requires aligned { pc % 4 ≡ 0 }
     ensures block { IfOk result (IsBlock image.now pc) }
-    ensures computed { IfOk result (λ block. block.n ≡ length_of image.now pc) }
 {
     let mut walk = Walk::new(pc);
     let mut sites = Vec::new(alloc);

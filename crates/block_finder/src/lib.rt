@@ -3,11 +3,14 @@
 #![tactic(auto)]
 
 pub use blocks::{Block, Site};
+pub use caching::BlockCache;
 pub use finding::{find, length};
-pub use laws::length_is_one;
+pub use laws::{block_is_one, length_is_one};
 
 mod blocks;
+mod caching;
 mod finding;
+mod kept_blocks;
 mod laws;
 #[cfg(test)]
 mod tests;

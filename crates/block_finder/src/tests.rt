@@ -1,9 +1,13 @@
 //! Blocks of small images.
 
-ghost use Rattle.std.specs.Prelude.{◌≤◌, length, IfOk};
+ghost use Rattle.std.specs.Prelude.{◌≡◌, ◌≤◌, ◌%◌, length, IfOk, Some, true};
+ghost use Rattle.std.specs.Option.{option_copied};
+ghost use Rattle.flat_model.specs.Image.{word_at};
+ghost use Rattle.flat_model.specs.Instruction.{decoded};
+ghost use Rattle.block_finder.specs.Caches.{MayServe};
 
-use crate::{find, length};
-use flat_model::{Image, Region};
+use crate::{BlockCache, find, length};
+use flat_model::{Image, Ins, NoMemory, Region};
 use std::alloc::{AllocError, Global};
 use std::test::Fail;
 
@@ -62,5 +66,66 @@ fn blocks_stop_at_512_words_at_the_page_and_at_an_absent_word(rt: HostRuntime) -
         assert_eq!(rt; block.sites.len(), n as usize);
         assert_eq!(rt; length(&image, pc / 4 * 4), n);
     }
+    Ok(())
+}
+
+/// What a step on a decoded word asks of its caller: the word and the instruction at `pc`.
+fn step(image: &Image, pc: u64, word: u32, ins: Option<&Ins>) -> bool
+    requires word { word_at image.now pc ≡ Some word }
+    requires instruction { option_copied ins ≡ decoded word }
+    ensures there { result ≡ true }
+{
+    image.word(pc) == Some(word)
+}
+
+/// Goes through the block at `pc` that a cache gives, as a hart does: how many words it has.
+fn go(cache: &mut BlockCache, image: &Image, pc: u64) -> Result<u32, NoMemory>
+    requires aligned { pc % 4 ≡ 0 }
+    requires serves { MayServe cache.old image.now }
+    ensures serves { cache.new ≡ Some image.now }
+{
+    let block = cache.lookup(image, pc)?;
+    let mut at = pc;
+    let mut words = 0u32;
+    for site in &block.sites {
+        if step(image, at, site.word, site.ins.as_ref()) {
+            words = words.wrapping_add(1);
+        }
+        at = at.wrapping_add(4);
+    }
+    Ok(words)
+}
+
+/// At how many of the words from 0x10000 on, twice as many as a cache keeps blocks, it gives no block of the right length.
+fn differing(cache: &mut BlockCache, image: &Image) -> Result<u32, NoMemory>
+    requires serves { MayServe cache.old image.now }
+    ensures serves { MayServe cache.new image.now }
+{
+    let mut differing = 0u32;
+    for k in 0..2048u64 {
+        let pc = 0x10000 + 4 * k;
+        if go(cache, image, pc)? != length(image, pc) {
+            differing = differing.wrapping_add(1);
+        }
+    }
+    Ok(differing)
+}
+
+// What another thread may be given.
+fn sent<T: Send>(value: T) -> T
+    ensures { result ≡ value }
+{
+    value
+}
+
+#[test]
+fn a_cache_gives_the_same_blocks_again_when_others_took_their_places(
+    rt: HostRuntime,
+) -> Result<(), Fail> {
+    let image = image(rt.alloc(), 0x10000, 1000)?;
+    let mut cache = sent(BlockCache::new(rt.alloc())?);
+    assert_eq!(rt; differing(&mut cache, &image)?, 0);
+    assert_eq!(rt; differing(&mut cache, &image)?, 0);
+    assert_eq!(rt; go(&mut cache, &image, 0x10000)?, 512);
     Ok(())
 }

@@ -3,7 +3,7 @@ use Rattle.flat_model.specs.Blocks.{length_of}
 use Rattle.block_finder.specs.Block.{IsSite}
 use Rattle.block_finder.specs.Walks.{next_pc}
 use Rattle.block_finder.proofs.Computed.{length_is_computed}
-use Rattle.block_finder.proofs.Walking.{sites_push, length_push}
+use Rattle.block_finder.proofs.Sites.{sites_push, length_push}
 use Rattle.block_finder.proofs.finding.find.Goals as goal
 
 -- the next word stands behind those so far
@@ -23,15 +23,18 @@ loop-site-preserved c =
       all = c.in-Some.ensures.to_come ∙ kept.all;
     }
 
-pub returns-clause-block : goal.returns-clause-block
-returns-clause-block c =
+pub returns : goal.returns
+returns c =
     let image = c.args.image.now in
     let n = c.next.new.self.place in
     let kept = c.loop-site.invariant in
     let all : n ≡ length_of image c.args.pc = omega (arith, kept.all, c.in_default.ensures.to_come, c.in_default.ensures.site) in
     record {
-      place = refl;
-      long = rw all (length_is_computed image c.args.pc c.requires.aligned);
-      all = kept.count ∙ sym c.in_default.ensures.place;
-      sites = kept.placed;
+      block = record {
+        place = refl;
+        long = rw all (length_is_computed image c.args.pc c.requires.aligned);
+        computed = all;
+        all = kept.count ∙ sym c.in_default.ensures.place;
+        sites = kept.placed;
+      };
     }
