@@ -1,12 +1,12 @@
 //! A box beside what it has heard, so that those who hold it see plain data.
 
 ghost use Rattle.std.specs.Prelude.{◌≡◌, ◌+◌, [], length, IfOk, MatchResult};
-ghost use Rattle.flat_model.specs.Tallies.{ask_at, rows};
+ghost use Rattle.flat_model.specs.Kinds.{ask_at};
+ghost use Rattle.watcher_api.specs.Tallies.{rows};
 ghost use Rattle.watcher_api.specs.Heard.{with_event};
 
-use crate::traces::Trace;
 use crate::watchers::Watcher;
-use flat_model::{Ask, Event, Kind, NoMemory, Row};
+use flat_model::{Ask, Event, Kind, NoMemory, Row, Trace};
 use std::alloc::Global;
 use std::marker::Model;
 

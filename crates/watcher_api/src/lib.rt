@@ -1,19 +1,17 @@
-//! Boxes that hear the events of a hart: what a box stands for, the box that keeps every event, and a box
-//! that is held beside what it heard.
+//! Boxes that hear the events of a hart: what a box stands for, the box that keeps every event, a box that is held
+//! beside what it heard, and who gets the boxes back when a plug-in has ended.
 #![tactic(auto)]
 
-pub use counters::Counter;
+pub use closers::{Closer, Notices, Parked, Returned};
 pub use holders::Held;
 pub use recorders::{Recorder, rows_of};
 pub use refusers::Refuser;
-pub use traces::Trace;
 pub use watchers::{Watcher, asked};
 
-mod counters;
+mod closers;
 mod holders;
 mod recorders;
 mod refusers;
 #[cfg(test)]
 mod tests;
-mod traces;
 mod watchers;

@@ -3,7 +3,7 @@
 ghost use Rattle.std.specs.Prelude.{◌≡◌, ◌<◌, ◌^◌, List, [], length, IfOk, take};
 ghost use Rattle.flat_model.specs.declared.events.Event.{Event};
 ghost use Rattle.std.specs.List.{filter_map};
-ghost use Rattle.flat_model.specs.Tallies.{rows, exec_row};
+ghost use Rattle.watcher_api.specs.Tallies.{rows, exec_row};
 
 use crate::watchers::{Watcher, asked};
 use flat_model::{Ask, Event, Kind, KindName, NoMemory, Row, What};
@@ -66,7 +66,7 @@ impl Watcher for Recorder {
 }
 
 /// The rows that a box of the kind tallies for these events.
-#[tactic(auto, unfolding(flat_model::specs::Tallies::rows))]
+#[tactic(auto, unfolding(crate::specs::Tallies::rows))]
 pub fn rows_of(alloc: Global, kind: Kind, events: &[Event]) -> Result<Vec<Row>, NoMemory>
     ensures { IfOk result (λ tally. tally.items ≡ rows kind events.now) }
 {
@@ -99,6 +99,7 @@ fn exec_row(e: &Event) -> Option<Row>
             a: u64::from(word),
             b: e.step,
             c: u64::from(e.hart),
+            d: 0,
         }),
         _ => None,
     }

@@ -1,8 +1,8 @@
 ghost use Rattle.std.specs.Prelude.{◌≡◌, ◌<◌, None};
 
-use crate::counters::Counter;
-use crate::{Held, Recorder, Refuser, Watcher, rows_of};
-use flat_model::{Ask, Ending, Event, Kind, KindName, NoMemory, Row, What};
+use crate::{Closer, Held, Notices, Parked, Recorder, Refuser, Returned, Watcher, rows_of};
+use flat_model::{Ask, Ending, Event, How, Kind, KindName, NoMemory, Row, What};
+use score_boards::{Column, ParkedColumn};
 use std::alloc::Global;
 use std::test::Fail;
 
@@ -45,7 +45,13 @@ fn told_rows() -> [Row; 3] {
 }
 
 fn row(key: u64, a: u64, b: u64) -> Row {
-    Row { key, a, b, c: 0 }
+    Row {
+        key,
+        a,
+        b,
+        c: 0,
+        d: 0,
+    }
 }
 
 fn asking(name: KindName, quota: u64) -> Kind
@@ -105,11 +111,6 @@ fn boxes_ask_at_the_call_of_their_quota(rt: HostRuntime) -> Result<(), Fail> {
         answers(alloc, recorder, asking(KindName::Exec, 3))?.as_slice(),
         want.as_slice()
     );
-    let counter = Counter::blank();
-    assert_eq!(rt;
-        answers(alloc, counter, asking(KindName::Counts, 3))?.as_slice(),
-        want.as_slice()
-    );
     Ok(())
 }
 
@@ -123,5 +124,62 @@ fn a_refused_call_has_heard_nothing(rt: HostRuntime) -> Result<(), Fail> {
     }
     let first = [row(0x10000, 0x05D0_0893, 1)];
     assert_eq!(rt; held.tally(rt.alloc())?.as_slice(), first.as_slice());
+    Ok(())
+}
+
+// A notice of a plug-in with one box that heard as many events, and one column of as many entries.
+fn notice(
+    alloc: Global,
+    plugin: u8,
+    heard: usize,
+    entries: u8,
+) -> Result<Returned<Held<Recorder>>, Fail> {
+    let mut watcher = Held::new(Recorder::blank(alloc), EXEC);
+    for e in told().iter().take(heard) {
+        watcher.call(e).ok();
+    }
+    let mut boxes = Vec::new(alloc);
+    boxes.push(Parked {
+        hart: 0,
+        sub: 0,
+        watcher,
+    })?;
+    let mut columns = Vec::new(alloc);
+    columns.push(ParkedColumn {
+        hart: 0,
+        column: Column::new(alloc, entries)?,
+    })?;
+    Ok(Returned {
+        plugin,
+        how: How::Uninstall,
+        boxes,
+        columns,
+    })
+}
+
+// Hands two notices to a closer; the number of each notice that it has then.
+fn close_two<C: Closer<Held<Recorder>>>(alloc: Global, closer: C) -> Result<Vec<u8>, Fail> {
+    let mut closer = closer;
+    closer.closed(notice(alloc, 3, 2, 1)?).ok();
+    closer.closed(notice(alloc, 1, 4, 2)?).ok();
+    let mut plugins = Vec::new(alloc);
+    for i in 0..closer.count() {
+        plugins.push(closer.notice(i).plugin)?;
+    }
+    Ok(plugins)
+}
+
+#[test]
+fn notices_are_kept_in_order(rt: HostRuntime) -> Result<(), Fail> {
+    let mut notices = sent(Notices::new(rt.alloc()));
+    assert!(rt; notices.closed(notice(rt.alloc(), 3, 2, 1)?).is_ok());
+    assert_eq!(rt; notices.count(), 1);
+    let kept = notices.notice(0);
+    assert_eq!(rt;
+        (kept.plugin, kept.boxes.len(), kept.columns.len()),
+        (3, 1, 1)
+    );
+    let plugins = close_two(rt.alloc(), Notices::new(rt.alloc()))?;
+    assert_eq!(rt; plugins.as_slice(), [3, 1].as_slice());
     Ok(())
 }

@@ -3,7 +3,8 @@
 ghost use Rattle.std.specs.Prelude.{◌≡◌, List, [], Option, IsSome, IfOk, MatchResult};
 ghost use Rattle.flat_model.specs.declared.events.Event.{Event};
 ghost use Rattle.flat_model.specs.declared.plugins.Kind.{Kind};
-ghost use Rattle.flat_model.specs.Tallies.{ask_at, rows};
+ghost use Rattle.flat_model.specs.Kinds.{ask_at};
+ghost use Rattle.watcher_api.specs.Tallies.{rows};
 ghost use Rattle.watcher_api.specs.Meaning.{IsHeard, IsKept};
 
 use flat_model::{Ask, Event, Kind, NoMemory, Row};
@@ -30,11 +31,15 @@ pub trait Watcher: Drop {
     fn call(&mut self, e: &Event) -> Result<Ask, NoMemory>
         requires prepared { IsSome (kind_of self.old) }
         ensures kind { kind_of self.new ≡ kind_of self.old }
-        ensures heard { MatchResult result (λ ask. IsHeard kind_of stands self.old self.new e.now ask) (λ _. IsKept stands self.old self.new) };
+        ensures heard { MatchResult result
+            (λ ask. IsHeard kind_of stands self.old self.new e.now ask)
+            (λ _. IsKept stands self.old self.new) };
 
     /// The rows of its kind for the events that it heard.
     fn tally(&self, alloc: Global) -> Result<Vec<Row>, NoMemory>
-        ensures rows { IfOk result (λ tally. (kind : Kind) (events : List Event) → kind_of self.now ≡ Some kind → stands self.now events → tally.items ≡ rows kind events) };
+        ensures rows { IfOk result (λ tally.
+            (kind : Kind) (events : List Event)
+            → kind_of self.now ≡ Some kind → stands self.now events → tally.items ≡ rows kind events) };
 }
 
 /// What a box of the kind asks for at its call of number `calls`, from 1.
