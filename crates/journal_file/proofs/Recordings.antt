@@ -1,9 +1,10 @@
 -- The laws of entries and of the whole file.
-use Rattle.std.proofs.Common.{◌≡◌, ℕ, zero, suc, ◌+◌, ◌^◌, ◌<◌, eqb, Bool, true, false, cond, List, [], ◌∷◌, ◌++◌, length, Option, Some, None, Result, Ok, Err, refl, sym, ap, subst, ◌∙◌, append_assoc, arith, lit<}
-use Rattle.std.specs.Prelude.{IfOk, codes}
+use Rattle.std.proofs.Common.{◌≡◌, ℕ, zero, suc, ◌+◌, ◌^◌, ◌<◌, eqb, ◌||◌, Bool, true, false, cond, List, [], ◌∷◌, ◌++◌, length, Option, Some, None, Result, Ok, Err, refl, sym, ap, subst, ◌∙◌, append_assoc, arith, lit<}
+use Rattle.std.specs.Prelude.{IfOk, IfSome, codes}
 use Rattle.std.specs.List.{flat_map, All, AllByRecursion}
 use Rattle.std.specs.Int.{w32, w64, to_le_bytes}
 use Rattle.std.proofs.lemmas.Bool.{eqb-true}
+use Rattle.std.proofs.lemmas.Bool.Decides.{nat_tests}
 use Rattle.std.proofs.lemmas.List.{append-nil, nil_from_length}
 use Rattle.std.proofs.lemmas.List.Concat.{flat_map-cons}
 use Rattle.std.proofs.lemmas.List.Elements.{All-from_recursion}
@@ -18,9 +19,12 @@ use Rattle.flat_model.specs.Log.{turning, are_one, HasSteps, IsJoinedAfter}
 use Rattle.journal_file.specs.declared.refusal.Fault.{Fault}
 use Rattle.journal_file.specs.declared.refusal.Fault.TheVariants as faults
 use Rattle.journal_file.specs.declared.refusal.FileRefusal.{FileRefusal}
-use Rattle.journal_file.specs.declared.refusal.FileRefusal.TheVariants.{Magic, Version, Extra}
-use Rattle.journal_file.specs.Spelling.{set, origin, order, entry, header, spelling, FitsOrigin, FitsOrder, FitsEntry, AreEntries, HasFewSubs, HasFewSubsIn}
-use Rattle.journal_file.specs.Reading.{◌>>=◌, Gives, byte_at, number_at, set_at, given, origin_at, ordered, order_at, turn_at, entered, entry_at, placed, entries_at, header_at, file_at}
+use Rattle.journal_file.specs.declared.refusal.FileRefusal.TheVariants.{Magic, Version, BadHead, Extra}
+use Rattle.flat_model.specs.declared.journals.Mode.{Mode}
+use Rattle.flat_model.specs.declared.journals.Mode.TheVariants.{All as Every, First}
+use Rattle.journal_file.specs.Head.{Head, FileState, IsHead, are_within, mode_of, mode_byte}
+use Rattle.journal_file.specs.Spelling.{set, origin, order, entry, header, version_of, head_bytes, spelling, FitsOrigin, FitsOrder, FitsEntry, AreEntries, IsFile, HasFewSubs, HasFewSubsIn}
+use Rattle.journal_file.specs.Reading.{◌>>=◌, Gives, byte_at, number_at, set_at, given, origin_at, ordered, order_at, turn_at, entered, entry_at, placed, entries_at, version_at, judged, run_head_at, head_at, body_at, file_at}
 use Rattle.journal_file.proofs.Laws.{IsBytes, IsBytes-rest, done, ok_is, field, bind_ok, guard_ok, Takes, Takes-then, Takes-byte, Takes-behind, Law, step, taken, again_then, again_last, byte_law, law32, law64}
 use Rattle.journal_file.proofs.Sets.{set_law}
 
@@ -219,52 +223,169 @@ guard_on : {A E : Type 0} (b : Bool) (d : E) (x y : A) → cond b (Ok x) (Err d)
 guard_on true d x y e = (refl, cc)
 guard_on false d x y e = absurd cc
 
-header_takes : (bytes : List ℕ) (x : ℕ × List ℕ) → IsBytes bytes → header_at bytes ≡ Ok x → Takes bytes (header x.0) x.1 × (x.0 < 2 ^ 64)
-unfolding header_at
-header_takes bytes x fits e =
-    let m = bind_ok (placed 0 (number_at w32 bytes)) (λ m. cond (eqb m.0 0x4A474354) (Ok m.0) (Err Magic) >>= λ s. placed 0 (number_at w32 m.1) >>= λ v. cond (eqb v.0 1) (Ok v.0) (Err (Version v.0)) >>= λ o. placed 0 (number_at w64 v.1)) x e in
-    let s = bind_ok (cond (eqb m.0.0 0x4A474354) (Ok m.0.0) (Err Magic)) (λ s. placed 0 (number_at w32 m.0.1) >>= λ v. cond (eqb v.0 1) (Ok v.0) (Err (Version v.0)) >>= λ o. placed 0 (number_at w64 v.1)) x m.2 in
-    let v = bind_ok (placed 0 (number_at w32 m.0.1)) (λ v. cond (eqb v.0 1) (Ok v.0) (Err (Version v.0)) >>= λ o. placed 0 (number_at w64 v.1)) x s.2 in
-    let o = bind_ok (cond (eqb v.0.0 1) (Ok v.0.0) (Err (Version v.0.0))) (λ o. placed 0 (number_at w64 v.0.1)) x v.2 in
+version_takes : (bytes : List ℕ) (x : ℕ × List ℕ) → IsBytes bytes → version_at bytes ≡ Ok x
+    → Takes bytes (codes "TCGJ" ++ to_le_bytes w32 x.0) x.1 × (eqb x.0 1 || eqb x.0 2 ≡ true)
+unfolding version_at
+version_takes bytes x fits e =
+    let m = bind_ok (placed 0 (number_at w32 bytes)) (λ m. cond (eqb m.0 0x4A474354) (Ok m.0) (Err Magic) >>= λ s. placed 0 (number_at w32 m.1) >>= λ v. cond (eqb v.0 1 || eqb v.0 2) (Ok v) (Err (Version v.0))) x e in
+    let s = bind_ok (cond (eqb m.0.0 0x4A474354) (Ok m.0.0) (Err Magic)) (λ s. placed 0 (number_at w32 m.0.1) >>= λ v. cond (eqb v.0 1 || eqb v.0 2) (Ok v) (Err (Version v.0))) x m.2 in
+    let v = bind_ok (placed 0 (number_at w32 m.0.1)) (λ v. cond (eqb v.0 1 || eqb v.0 2) (Ok v) (Err (Version v.0))) x s.2 in
+    let g = guard_on (eqb v.0.0 1 || eqb v.0.0 2) (Version v.0.0) v.0 x v.2 in
     let m-is : m.0.0 ≡ 0x4A474354 = eqb-true _ _ (guard_on (eqb m.0.0 0x4A474354) Magic m.0.0 s.0 s.1).0 in
-    let v-is : v.0.0 ≡ 1 = eqb-true _ _ (guard_on (eqb v.0.0 1) (Version v.0.0) v.0.0 o.0 o.1).0 in
     let t1 = law32.takes bytes m.0.0 m.0.1 fits (placed_ok 0 (number_at w32 bytes) m.0 m.1) in
     let t2 = law32.takes m.0.1 v.0.0 v.0.1 t1.0.rest_fits (placed_ok 0 (number_at w32 m.0.1) v.0 v.1) in
-    let t3 = law64.takes v.0.1 x.0 x.1 t2.0.rest_fits (placed_ok 0 (number_at w64 v.0.1) x o.2) in
     let first : Takes bytes (codes "TCGJ") m.0.1 = subst (λ k. Takes bytes (to_le_bytes w32 k) m.0.1) m-is t1.0 in
-    let second : Takes m.0.1 (to_le_bytes w32 1) v.0.1 = subst (λ k. Takes m.0.1 (to_le_bytes w32 k) v.0.1) v-is t2.0 in
-    (Takes-then bytes (codes "TCGJ") m.0.1 (to_le_bytes w32 1 ++ to_le_bytes w64 x.0) x.1 first (Takes-then m.0.1 (to_le_bytes w32 1) v.0.1 (to_le_bytes w64 x.0) x.1 second t3.0), t3.1)
+    subst (λ (y : ℕ × List ℕ). Takes bytes (codes "TCGJ" ++ to_le_bytes w32 y.0) y.1 × (eqb y.0 1 || eqb y.0 2 ≡ true)) g.1
+    (Takes-then bytes (codes "TCGJ") m.0.1 (to_le_bytes w32 v.0.0) v.0.1 first t2.0, g.0)
 
-header_again : (n : ℕ) (rest : List ℕ) → n < 2 ^ 64 → header_at (header n ++ rest) ≡ Ok (n, rest)
-unfolding header_at
-header_again n rest lt =
-    ap (λ r. placed 0 r >>= λ m. cond (eqb m.0 0x4A474354) (Ok m.0) (Err Magic) >>= λ s. placed 0 (number_at w32 m.1) >>= λ v. cond (eqb v.0 1) (Ok v.0) (Err (Version v.0)) >>= λ o. placed 0 (number_at w64 v.1)) (law32.again 0x4A474354 (to_le_bytes w32 1 ++ (to_le_bytes w64 n ++ rest)) (lit< tt)) ∙
-    ap (λ r. placed 0 r >>= λ v. cond (eqb v.0 1) (Ok v.0) (Err (Version v.0)) >>= λ o. placed 0 (number_at w64 v.1)) (law32.again 1 (to_le_bytes w64 n ++ rest) (lit< tt)) ∙
-    ap (placed 0) (law64.again n rest lt)
+version_again : (n : ℕ) (rest : List ℕ) → n < 2 ^ 32 → eqb n 1 || eqb n 2 ≡ true → version_at (codes "TCGJ" ++ (to_le_bytes w32 n ++ rest)) ≡ Ok (n, rest)
+unfolding version_at
+version_again n rest lt known =
+    ap (λ r. placed 0 r >>= λ m. cond (eqb m.0 0x4A474354) (Ok m.0) (Err Magic) >>= λ s. placed 0 (number_at w32 m.1) >>= λ v. cond (eqb v.0 1 || eqb v.0 2) (Ok v) (Err (Version v.0))) (law32.again 0x4A474354 (to_le_bytes w32 n ++ rest) (lit< tt)) ∙
+    ap (λ r. placed 0 r >>= λ v. cond (eqb v.0 1 || eqb v.0 2) (Ok v) (Err (Version v.0))) (law32.again n rest lt) ∙
+    ap (λ b. cond b (done (n, rest)) (Err (Version n))) known
+
+-- ---- the head
+
+mode_back : (b : ℕ) (mode : Mode) → mode_of b ≡ Some mode → mode_byte mode ≡ b
+mode_back zero mode e = let same : Every ≡ mode = cc in ap mode_byte (sym same)
+mode_back (suc zero) mode e = let same : First ≡ mode = cc in ap mode_byte (sym same)
+mode_back (suc (suc b)) mode e = absurd cc
+
+mode_again : (mode : Mode) → mode_of (mode_byte mode) ≡ Some mode
+mode_again Every = refl
+mode_again First = refl
+
+-- the head that stands behind these numbers
+record IsRead (bytes : List ℕ) (head : Option Head) (rest : List ℕ) : Type 0 where
+  takes : Takes bytes (head_bytes head) rest
+  within : IfSome head IsHead
+
+judged_is : (harts mode limit : ℕ) (o : Option Mode) (bytes rest : List ℕ) (x : Option Head × List ℕ) → mode_of mode ≡ o
+    → judged harts o limit rest ≡ Ok x → Takes bytes (harts ∷ mode ∷ to_le_bytes w64 limit) rest → IsRead bytes x.0 x.1 × (version_of x.0 ≡ 2)
+judged_is harts mode limit None bytes rest x o e takes = absurd cc
+judged_is harts mode limit (Some m) bytes rest x o e takes =
+    let made : Option Head × List ℕ = (Some (record { harts = harts; mode = m; limit = limit }), rest) in
+    let g = guard_on (are_within harts limit) BadHead made x e in
+    subst (λ (y : Option Head × List ℕ). IsRead bytes y.0 y.1 × (version_of y.0 ≡ 2)) g.1
+    (record { takes = rw (mode_back mode m o) takes; within = g.0 }, refl)
+
+run_head_takes : (bytes : List ℕ) (x : Option Head × List ℕ) → IsBytes bytes → run_head_at bytes ≡ Ok x
+    → IsRead bytes x.0 x.1 × (version_of x.0 ≡ 2)
+unfolding run_head_at
+run_head_takes bytes x fits e =
+    let h = bind_ok (placed 0 (byte_at bytes)) (λ h. placed 0 (byte_at h.1) >>= λ m. placed 0 (number_at w64 m.1) >>= λ l. judged h.0 (mode_of m.0) l.0 l.1) x e in
+    let m = bind_ok (placed 0 (byte_at h.0.1)) (λ m. placed 0 (number_at w64 m.1) >>= λ l. judged h.0.0 (mode_of m.0) l.0 l.1) x h.2 in
+    let l = bind_ok (placed 0 (number_at w64 m.0.1)) (λ l. judged h.0.0 (mode_of m.0.0) l.0 l.1) x m.2 in
+    let t1 = byte_law.takes bytes h.0.0 h.0.1 fits (placed_ok 0 (byte_at bytes) h.0 h.1) in
+    let t2 = byte_law.takes h.0.1 m.0.0 m.0.1 t1.0.rest_fits (placed_ok 0 (byte_at h.0.1) m.0 m.1) in
+    let t3 = law64.takes m.0.1 l.0.0 l.0.1 t2.0.rest_fits (placed_ok 0 (number_at w64 m.0.1) l.0 l.1) in
+    let two = Takes-then h.0.1 (m.0.0 ∷ []) m.0.1 (to_le_bytes w64 l.0.0) l.0.1 t2.0 t3.0 in
+    let all = Takes-then bytes (h.0.0 ∷ []) h.0.1 (m.0.0 ∷ to_le_bytes w64 l.0.0) l.0.1 t1.0 two in
+    judged_is h.0.0 m.0.0 l.0.0 (mode_of m.0.0) bytes l.0.1 x refl l.2 all
+
+other_of : (a b : Bool) → a || b ≡ true → a ≡ false → b ≡ true
+other_of true b either apart = absurd cc
+other_of false b either apart = either
+
+by_version : (version : ℕ) (b : Bool) (bytes : List ℕ) (x : Option Head × List ℕ) → IsBytes bytes → eqb version 1 ≡ b
+    → eqb version 1 || eqb version 2 ≡ true → cond b (Ok (None, bytes)) (run_head_at bytes) ≡ Ok x → IsRead bytes x.0 x.1 × (version_of x.0 ≡ version)
+by_version version true bytes x fits one known e =
+    let made : Option Head × List ℕ = (None, bytes) in
+    subst (λ (y : Option Head × List ℕ). IsRead bytes y.0 y.1 × (version_of y.0 ≡ version)) (ok_is made x FileRefusal e)
+    (record { takes = record { parts = refl; rest_fits = fits }; within = tt }, sym (eqb-true version 1 one))
+by_version version false bytes x fits one known e =
+    let head = run_head_takes bytes x fits e in
+    (head.0, head.1 ∙ sym (eqb-true version 2 (other_of _ _ known one)))
+
+head_takes : (version : ℕ) (bytes : List ℕ) (x : Option Head × List ℕ) → IsBytes bytes → eqb version 1 || eqb version 2 ≡ true
+    → head_at version bytes ≡ Ok x → IsRead bytes x.0 x.1 × (version_of x.0 ≡ version)
+unfolding head_at
+head_takes version bytes x fits known e = by_version version (eqb version 1) bytes x fits refl known e
+
+small_limit : (harts limit : ℕ) → are_within harts limit ≡ true → limit < 2 ^ 64
+small_limit harts limit within = grind (arith, nat_tests)
+
+run_head_again : (h : Head) (rest : List ℕ) → IsHead h → run_head_at (head_bytes (Some h) ++ rest) ≡ Ok (Some h, rest)
+unfolding run_head_at
+run_head_again h rest within =
+    ap (λ r. placed 0 r >>= λ l. judged h.harts (mode_of (mode_byte h.mode)) l.0 l.1) (law64.again h.limit rest (small_limit h.harts h.limit within))
+    ∙ ap (λ o. judged h.harts o h.limit rest) (mode_again h.mode)
+    ∙ ap (λ b. cond b (Ok (Some h, rest)) (Err BadHead)) within
+
+head_again : (head : Option Head) (rest : List ℕ) → IfSome head IsHead → head_at (version_of head) (head_bytes head ++ rest) ≡ Ok (head, rest)
+unfolding head_at
+head_again None rest fits = refl
+head_again (Some h) rest fits = run_head_again h rest fits
+
+version_known : (head : Option Head) → (version_of head < 2 ^ 32) × (eqb (version_of head) 1 || eqb (version_of head) 2 ≡ true)
+version_known None = (lit< tt, refl)
+version_known (Some h) = (lit< tt, refl)
 
 -- ---- the file
 
-pub file_takes : (bytes : List ℕ) (es : List Entry) → IsBytes bytes → file_at bytes ≡ Ok es → AreEntries es × (bytes ≡ spelling es)
-unfolding file_at
-file_takes bytes es fits e =
-    let a = bind_ok (header_at bytes) (λ n. entries_at 0 None n.0 n.1 >>= λ x. cond (eqb (length x.1) 0) (Ok x.0) (Err (Extra (length x.1)))) es e in
-    let b = bind_ok (entries_at 0 None a.0.0 a.0.1) (λ x. cond (eqb (length x.1) 0) (Ok x.0) (Err (Extra (length x.1)))) es a.2 in
+record IsBody (count : ℕ) (bytes : List ℕ) (es : List Entry) : Type 0 where
+  parts : bytes ≡ flat_map entry es
+  number : length es ≡ count
+  each : AllByRecursion FitsEntry es
+  joined : IsJoinedAfter None es
+
+body_takes : (count : ℕ) (bytes : List ℕ) (es : List Entry) → IsBytes bytes → body_at count bytes ≡ Ok es → IsBody count bytes es
+unfolding body_at
+body_takes count bytes es fits e =
+    let b = bind_ok (entries_at 0 None count bytes) (λ x. cond (eqb (length x.1) 0) (Ok x.0) (Err (Extra (length x.1)))) es e in
     let g = guard_on (eqb (length b.0.1) 0) (Extra (length b.0.1)) b.0.0 es b.2 in
-    let first = header_takes bytes a.0 fits a.1 in
-    let second = entries_take 0 None a.0.0 a.0.1 b.0 first.0.rest_fits b.1 in
+    let all = entries_take 0 None count bytes b.0 fits b.1 in
     let nothing : b.0.1 ≡ [] = nil_from_length b.0.1 (eqb-true _ _ g.0) in
-    let both = (Takes-then bytes (header a.0.0) a.0.1 (flat_map entry b.0.0) b.0.1 first.0 second.takes).parts in
-    let whole : bytes ≡ spelling b.0.0 = both ∙ ap (λ (r : List ℕ). (header a.0.0 ++ flat_map entry b.0.0) ++ r) nothing ∙ append-nil (header a.0.0 ++ flat_map entry b.0.0) ∙ ap (λ (k : ℕ). header k ++ flat_map entry b.0.0) (sym second.number) in
-    subst (λ (v : List Entry). AreEntries v × (bytes ≡ spelling v)) g.1 (record { count = subst (λ k. k < 2 ^ 64) (sym second.number) first.1; each = second.each; joined = second.joined }, whole)
+    let parts : bytes ≡ flat_map entry b.0.0 = all.takes.parts ∙ ap (λ (r : List ℕ). flat_map entry b.0.0 ++ r) nothing ∙ append-nil (flat_map entry b.0.0) in
+    subst (IsBody count bytes) g.1 (record { parts = parts; number = all.number; each = all.each; joined = all.joined })
 
-pub file_again : (es : List Entry) → AreEntries es → file_at (spelling es) ≡ Ok es
+body_again : (es : List Entry) → AreEntries es → body_at (length es) (flat_map entry es) ≡ Ok es
+unfolding body_at
+body_again es fits =
+    ap (λ r. r >>= λ x. cond (eqb (length x.1) 0) (Ok x.0) (Err (Extra (length x.1))))
+    (ap (entries_at 0 None (length es)) (sym (append-nil (flat_map entry es))) ∙ entries_again 0 None es [] fits.each fits.joined)
+
+abbrev with_head : Option Head → List Entry → Result FileState FileRefusal
+with_head head es = Ok (record { head = head; entries = es })
+
+pub file_takes : (bytes : List ℕ) (file : FileState) → IsBytes bytes → file_at bytes ≡ Ok file
+    → IsFile file × (bytes ≡ spelling file.head file.entries)
 unfolding file_at
-file_again es fits =
-    let rest : entries_at 0 None (length es) (flat_map entry es) ≡ Ok (es, []) = ap (entries_at 0 None (length es)) (sym (append-nil (flat_map entry es))) ∙ entries_again 0 None es [] fits.each fits.joined in
-    ap (λ r. r >>= λ n. entries_at 0 None n.0 n.1 >>= λ x. cond (eqb (length x.1) 0) (Ok x.0) (Err (Extra (length x.1)))) (header_again (length es) (flat_map entry es) fits.count) ∙
-    ap (λ r. r >>= λ x. cond (eqb (length x.1) 0) (Ok x.0) (Err (Extra (length x.1)))) rest
+file_takes bytes file fits e =
+    let v = bind_ok (version_at bytes) (λ v. placed 0 (number_at w64 v.1) >>= λ n. head_at v.0 n.1 >>= λ h. body_at n.0 h.1 >>= with_head h.0) file e in
+    let n = bind_ok (placed 0 (number_at w64 v.0.1)) (λ n. head_at v.0.0 n.1 >>= λ h. body_at n.0 h.1 >>= with_head h.0) file v.2 in
+    let h = bind_ok (head_at v.0.0 n.0.1) (λ h. body_at n.0.0 h.1 >>= with_head h.0) file n.2 in
+    let b = bind_ok (body_at n.0.0 h.0.1) (with_head h.0.0) file h.2 in
+    let first = version_takes bytes v.0 fits v.1 in
+    let count = law64.takes v.0.1 n.0.0 n.0.1 first.0.rest_fits (placed_ok 0 (number_at w64 v.0.1) n.0 n.1) in
+    let head = head_takes v.0.0 n.0.1 h.0 count.0.rest_fits first.1 h.1 in
+    let body = body_takes n.0.0 h.0.1 b.0 head.0.takes.rest_fits b.1 in
+    let front = Takes-then bytes (codes "TCGJ" ++ to_le_bytes w32 v.0.0) v.0.1 (to_le_bytes w64 n.0.0) n.0.1 first.0 count.0 in
+    let text = head_bytes h.0.0 ++ flat_map entry b.0 in
+    let back : n.0.1 ≡ head_bytes h.0.0 ++ flat_map entry b.0 = head.0.takes.parts ∙ ap (λ (r : List ℕ). head_bytes h.0.0 ++ r) body.parts in
+    let whole : bytes ≡ spelling h.0.0 b.0 = front.parts ∙ ap (λ (r : List ℕ). header v.0.0 n.0.0 ++ r) back
+    ∙ ap (λ (k : ℕ). header v.0.0 k ++ text) (sym body.number) ∙ ap (λ (k : ℕ). header k (length b.0) ++ text) (sym head.1) in
+    let are : AreEntries b.0 = record { count = subst (λ k. k < 2 ^ 64) (sym body.number) count.1; each = body.each; joined = body.joined } in
+    let made : FileState = record { head = h.0.0; entries = b.0 } in
+    subst (λ (f : FileState). IsFile f × (bytes ≡ spelling f.head f.entries)) (ok_is made file FileRefusal b.2) (record { head = head.0.within; entries = are }, whole)
 
-pub is_found : {J : Type 0} (view : J → List Entry) (bytes : List ℕ) (r : Result J (Refused FileRefusal)) → IsBytes bytes → Gives view r (file_at bytes) → IfOk r (λ j. AreEntries (view j) × (bytes ≡ spelling (view j)))
+pub file_again : (file : FileState) → IsFile file → file_at (spelling file.head file.entries) ≡ Ok file
+unfolding file_at
+file_again file fits =
+    let es = file.entries in
+    let n = length es in
+    let text = head_bytes file.head ++ flat_map entry es in
+    let known = version_known file.head in
+    ap (λ r. r >>= λ v. placed 0 (number_at w64 v.1) >>= λ n. head_at v.0 n.1 >>= λ h. body_at n.0 h.1 >>= with_head h.0)
+    (version_again (version_of file.head) (to_le_bytes w64 n ++ text) known.0 known.1) ∙
+    ap (λ r. placed 0 r >>= λ n. head_at (version_of file.head) n.1 >>= λ h. body_at n.0 h.1 >>= with_head h.0)
+    (law64.again n text fits.entries.count) ∙
+    ap (λ r. r >>= λ h. body_at n h.1 >>= with_head h.0) (head_again file.head (flat_map entry es) fits.head) ∙
+    ap (λ r. r >>= with_head file.head) (body_again es fits.entries)
+
+pub is_found : {J : Type 0} (view : J → FileState) (bytes : List ℕ) (r : Result J (Refused FileRefusal)) → IsBytes bytes
+    → Gives view r (file_at bytes) → IfOk r (λ j. IsFile (view j) × (bytes ≡ spelling (view j).head (view j).entries))
 is_found view bytes (Ok j) fits given = file_takes bytes (view j) fits given
 is_found view bytes (Err e) fits given = tt
 
@@ -285,6 +406,7 @@ all_few : (es : List Entry) → AllByRecursion FitsEntry es → AllByRecursion H
 all_few [] fits = tt
 all_few (e ∷ es) fits = (few e fits.0, all_few es fits.1)
 
-pub is_writable : {J : Type 0} (view : J → List Entry) (bytes : List ℕ) (r : Result J (Refused FileRefusal)) → IfOk r (λ j. AreEntries (view j) × (bytes ≡ spelling (view j))) → IfOk r (λ j. All HasFewSubsIn (view j))
-is_writable view bytes (Ok j) found = All-from_recursion HasFewSubsIn (view j) (all_few (view j) found.0.each)
+pub is_writable : {J : Type 0} (view : J → FileState) (bytes : List ℕ) (r : Result J (Refused FileRefusal))
+    → IfOk r (λ j. IsFile (view j) × (bytes ≡ spelling (view j).head (view j).entries)) → IfOk r (λ j. All HasFewSubsIn (view j).entries)
+is_writable view bytes (Ok j) found = All-from_recursion HasFewSubsIn (view j).entries (all_few (view j).entries found.0.entries.each)
 is_writable view bytes (Err e) found = tt

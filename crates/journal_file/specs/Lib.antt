@@ -1,3 +1,5 @@
-pub mod Table
-pub mod Spelling
+pub mod File
+pub mod Head
 pub mod Reading
+pub mod Spelling
+pub mod Table

@@ -1,6 +1,7 @@
 -- Reading a journal file from left to right, with the first fault that is met. A whole field is judged
 -- before the next one is read.
-use Rattle.std.specs.Prelude.{◌≡◌, ℕ, zero, suc, ◌+◌, List, [], ◌∷◌, length, take, drop, Option, Some, None, Result, Ok, Err, nat_lt, ◌==◌, if◌then◌else◌}
+use Rattle.std.specs.Prelude.{◌≡◌, ℕ, zero, suc, ◌+◌, ◌||◌, nat_lt, ◌==◌, if◌then◌else◌, List, [], ◌∷◌, length, take, drop}
+use Rattle.std.specs.Prelude.{Option, Some, None, Result, Ok, Err}
 use Rattle.std.specs.Int.{Width, w16, w32, w64, byte_len, from_le_bytes}
 use Rattle.flat_model.specs.declared.refusals.Refused.{Refused}
 use Rattle.flat_model.specs.declared.refusals.Refused.TheVariants as refused
@@ -18,6 +19,7 @@ use Rattle.flat_model.specs.declared.journals.Order.{Order}
 use Rattle.flat_model.specs.declared.journals.Order.TheVariants as orders
 use Rattle.flat_model.specs.declared.journals.Origin.{Origin}
 use Rattle.flat_model.specs.declared.journals.Origin.TheVariants as origins
+use Rattle.flat_model.specs.declared.journals.Mode.{Mode}
 use Rattle.flat_model.specs.declared.journals.Entry.{Entry}
 use Rattle.flat_model.specs.declared.journals.Entry.TheVariants as entries
 use Rattle.flat_model.specs.Kinds.{staying, resetting, uninstalling}
@@ -25,7 +27,8 @@ use Rattle.flat_model.specs.Log.{turning, are_one}
 use Rattle.journal_file.specs.declared.refusal.Fault.{Fault}
 use Rattle.journal_file.specs.declared.refusal.Fault.TheVariants as faults
 use Rattle.journal_file.specs.declared.refusal.FileRefusal.{FileRefusal}
-use Rattle.journal_file.specs.declared.refusal.FileRefusal.TheVariants.{Short, Magic, Version, BadEntry, Extra}
+use Rattle.journal_file.specs.declared.refusal.FileRefusal.TheVariants.{Short, Magic, Version, BadHead, BadEntry, Extra}
+use Rattle.journal_file.specs.Head.{Head, FileState, are_within, mode_of}
 use Rattle.journal_file.specs.Table.{op_of, cond_of}
 
 infixl 10 ◌>>=◌
@@ -51,7 +54,9 @@ byte_at [] = Err faults.Short
 byte_at (b ∷ rest) = Ok (b, rest)
 
 abbrev pub number_at : Width → List ℕ → Field ℕ
-number_at w bytes = if nat_lt (length bytes) (byte_len w) then Err faults.Short else Ok (from_le_bytes w (take (byte_len w) bytes), drop (byte_len w) bytes)
+number_at w bytes =
+    if nat_lt (length bytes) (byte_len w) then Err faults.Short
+    else Ok (from_le_bytes w (take (byte_len w) bytes), drop (byte_len w) bytes)
 
 -- a byte that stands for something
 abbrev pub known : {A : Type 0} → ℕ → List ℕ → Option A → Field A
@@ -274,18 +279,43 @@ entries_at place last (suc n) bytes = do
   others ← entries_at (place + 1) (turning first.0) n first.1
   Ok (first.0 ∷ others.0, others.1)
 
--- the number of entries; 0x4A474354 is the text TCGJ
-unfoldable pub header_at : List ℕ → Result (ℕ × List ℕ) FileRefusal
-header_at bytes = do
+-- the version, behind 0x4A474354, which is the text TCGJ
+unfoldable pub version_at : List ℕ → Result (ℕ × List ℕ) FileRefusal
+version_at bytes = do
   magic ← placed 0 (number_at w32 bytes)
   same ← (if magic.0 == 0x4A474354 then Ok magic.0 else Err Magic)
   version ← placed 0 (number_at w32 magic.1)
-  one ← (if version.0 == 1 then Ok version.0 else Err (Version version.0))
-  placed 0 (number_at w64 version.1)
+  if version.0 == 1 || version.0 == 2 then Ok version else Err (Version version.0)
+
+-- a head of these numbers, with the mode that its byte stands for, judged together
+abbrev pub judged : ℕ → Option Mode → ℕ → List ℕ → Result (Option Head × List ℕ) FileRefusal
+judged harts None limit rest = Err BadHead
+judged harts (Some mode) limit rest =
+    if are_within harts limit then Ok (Some (record { harts = harts; mode = mode; limit = limit }), rest) else Err BadHead
+
+-- the head of version 2, read to its end before it is judged
+unfoldable pub run_head_at : List ℕ → Result (Option Head × List ℕ) FileRefusal
+run_head_at bytes = do
+  harts ← placed 0 (byte_at bytes)
+  mode ← placed 0 (byte_at harts.1)
+  limit ← placed 0 (number_at w64 mode.1)
+  judged harts.0 (mode_of mode.0) limit.0 limit.1
+
+-- the head that a version has
+unfoldable pub head_at : ℕ → List ℕ → Result (Option Head × List ℕ) FileRefusal
+head_at version bytes = if version == 1 then Ok (None, bytes) else run_head_at bytes
+
+-- as many entries as said, and nothing behind them
+unfoldable pub body_at : ℕ → List ℕ → Result (List Entry) FileRefusal
+body_at count bytes = do
+  es ← entries_at 0 None count bytes
+  if length es.1 == 0 then Ok es.0 else Err (Extra (length es.1))
 
 -- all of the bytes
-unfoldable pub file_at : List ℕ → Result (List Entry) FileRefusal
+unfoldable pub file_at : List ℕ → Result FileState FileRefusal
 file_at bytes = do
-  count ← header_at bytes
-  es ← entries_at 0 None count.0 count.1
-  if length es.1 == 0 then Ok es.0 else Err (Extra (length es.1))
+  version ← version_at bytes
+  count ← placed 0 (number_at w64 version.1)
+  head ← head_at version.0 count.1
+  es ← body_at count.0 head.1
+  Ok (record { head = head.0; entries = es })

@@ -17,6 +17,7 @@ use Rattle.flat_model.specs.declared.journals.Origin.TheVariants as origins
 use Rattle.flat_model.specs.declared.journals.Entry.{Entry}
 use Rattle.flat_model.specs.declared.journals.Entry.TheVariants as entries
 use Rattle.flat_model.specs.Log.{IsJoined}
+use Rattle.journal_file.specs.Head.{Head, FileState, IsHead, mode_byte}
 use Rattle.journal_file.specs.Table.{op_byte, cond_byte, ask_byte}
 
 abbrev pub name : KindName → List ℕ
@@ -68,11 +69,21 @@ entry (entries.Back hart plugin) = 3 ∷ hart ∷ plugin ∷ []
 entry (entries.Leave hart) = 4 ∷ hart ∷ []
 entry (entries.Done party plugin) = 5 ∷ party ∷ plugin ∷ []
 
-abbrev pub header : ℕ → List ℕ
-header count = codes "TCGJ" ++ (to_le_bytes w32 1 ++ to_le_bytes w64 count)
+-- the text TCGJ, the version and the number of entries
+abbrev pub header : ℕ → ℕ → List ℕ
+header version count = codes "TCGJ" ++ (to_le_bytes w32 version ++ to_le_bytes w64 count)
 
-abbrev pub spelling : List Entry → List ℕ
-spelling es = header (length es) ++ flat_map entry es
+-- a file of version 1 has no head
+abbrev pub version_of : Option Head → ℕ
+version_of None = 1
+version_of (Some head) = 2
+
+abbrev pub head_bytes : Option Head → List ℕ
+head_bytes None = []
+head_bytes (Some head) = head.harts ∷ mode_byte head.mode ∷ to_le_bytes w64 head.limit
+
+abbrev pub spelling : Option Head → List Entry → List ℕ
+spelling head es = header (version_of head) (length es) ++ (head_bytes head ++ flat_map entry es)
 
 -- ---- what has a spelling
 
@@ -158,3 +169,8 @@ pub record AreEntries (es : List Entry) : Type 0 where
   pub count : length es < 2 ^ 64
   pub each : AllByRecursion FitsEntry es
   pub joined : IsJoined es
+
+-- what a file may hold
+pub record IsFile (file : FileState) : Type 0 where
+  pub head : IfSome file.head IsHead
+  pub entries : AreEntries file.entries

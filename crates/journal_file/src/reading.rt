@@ -1,24 +1,26 @@
 //! Reading a journal file.
 
-ghost use Rattle.std.specs.Prelude.{◌≡◌, ◌<◌, false, List, None, Ok, IfOk};
-ghost use Rattle.flat_model.specs.Log.{turning, are_one, HasSteps};
-ghost use Rattle.std.specs.Int.{w32};
+ghost use Rattle.std.specs.Prelude.{◌≡◌, ◌<◌, ℕ, false, List, Some, None, Ok, Err, IfOk, MatchOption};
+ghost use Rattle.std.specs.Int.{w32, w64};
 ghost use Rattle.std.specs.List.{All};
-ghost use Rattle.flat_model.specs.declared.journals.Entry.{Entry as Recorded};
-ghost use Rattle.journal_file.specs.Reading.{Gives, number_at, origin_at, order_at, turn_at, entry_at, placed, refused_at, entries_at, header_at, file_at};
-ghost use Rattle.journal_file.specs.Spelling.{AreEntries, HasFewSubsIn, spelling};
+ghost use Rattle.flat_model.specs.Log.{turning, are_one, HasSteps};
+ghost use Rattle.journal_file.specs.declared.refusal.FileRefusal.TheVariants.{BadHead};
+ghost use Rattle.journal_file.specs.File.{held};
+ghost use Rattle.journal_file.specs.Head.{FileState, mode_of};
+ghost use Rattle.journal_file.specs.Reading.{Gives, byte_at, number_at, origin_at, order_at, turn_at, entry_at, entries_at, body_at};
+ghost use Rattle.journal_file.specs.Reading.{placed, refused_at, version_at, judged, run_head_at, head_at, file_at};
+ghost use Rattle.journal_file.specs.Spelling.{IsFile, HasFewSubsIn, spelling};
 
 use crate::fields::{Field, read_u8, read_u32, read_u64};
+use crate::heads::{JournalFile, RunHead};
 use crate::plugins::read_set;
 use crate::refusal::{Fault, FileRefusal};
-use flat_model::{Entry, Order, Origin, Refused};
+use flat_model::{Entry, Mode, Order, Origin, Refused};
 use run_journal::Journal;
 use std::alloc::Global;
 
 /// The first four bytes of a file, the text TCGJ.
 const MAGIC: u32 = 0x4A47_4354;
-
-const VERSION: u32 = 1;
 
 #[tactic(auto, unfolding(crate::specs::Reading::origin_at))]
 fn read_origin(bytes: &[u8]) -> Field<'_, Origin>
@@ -146,6 +148,17 @@ fn refused_at(place: u64, fault: Refused<Fault>) -> Refused<FileRefusal>
     }
 }
 
+/// A byte of the header.
+#[tactic(auto, using(crate::proofs::Placed::fails_placed))]
+fn header_u8(bytes: &[u8]) -> Result<(u8, &[u8]), Refused<FileRefusal>>
+    ensures { Gives (λ x. (x.0, x.1.now)) result (placed 0 (byte_at bytes.now)) }
+{
+    match read_u8(bytes) {
+        Ok(read) => Ok(read),
+        Err(fault) => Err(refused_at(0, fault)),
+    }
+}
+
 /// A number of the header.
 #[tactic(auto, using(crate::proofs::Placed::fails_placed))]
 fn header_u32(bytes: &[u8]) -> Result<(u32, &[u8]), Refused<FileRefusal>>
@@ -157,23 +170,76 @@ fn header_u32(bytes: &[u8]) -> Result<(u32, &[u8]), Refused<FileRefusal>>
     }
 }
 
-/// The number of entries.
-#[tactic(auto, using(crate::proofs::Placed::fails_placed), unfolding(crate::specs::Reading::header_at))]
-fn read_header(bytes: &[u8]) -> Result<(u64, &[u8]), Refused<FileRefusal>>
-    ensures { Gives (λ x. (x.0, x.1.now)) result (header_at bytes.now) }
+#[tactic(auto, using(crate::proofs::Placed::fails_placed))]
+fn header_u64(bytes: &[u8]) -> Result<(u64, &[u8]), Refused<FileRefusal>>
+    ensures { Gives (λ x. (x.0, x.1.now)) result (placed 0 (number_at w64 bytes.now)) }
+{
+    match read_u64(bytes) {
+        Ok(read) => Ok(read),
+        Err(fault) => Err(refused_at(0, fault)),
+    }
+}
+
+/// The version, behind the first four bytes.
+#[tactic(auto, unfolding(crate::specs::Reading::version_at))]
+fn read_version(bytes: &[u8]) -> Result<(u32, &[u8]), Refused<FileRefusal>>
+    ensures { Gives (λ x. (x.0, x.1.now)) result (version_at bytes.now) }
 {
     let (magic, rest) = header_u32(bytes)?;
     if magic != MAGIC {
         return Err(Refused::Because(FileRefusal::Magic));
     }
     let (version, rest) = header_u32(rest)?;
-    if version != VERSION {
+    if version != 1 && version != 2 {
         return Err(Refused::Because(FileRefusal::Version { got: version }));
     }
-    match read_u64(rest) {
-        Ok(read) => Ok(read),
-        Err(fault) => Err(refused_at(0, fault)),
+    Ok((version, rest))
+}
+
+/// The mode that a byte stands for.
+fn mode_of(byte: u8) -> Option<Mode>
+    ensures { result ≡ mode_of byte }
+{
+    match byte {
+        0 => Some(Mode::All),
+        1 => Some(Mode::First),
+        _ => None,
     }
+}
+
+/// A head of these numbers, judged together.
+fn judge(harts: u8, mode: u8, limit: u64) -> Option<RunHead>
+    ensures { MatchOption result
+        ((rest : List ℕ) → judged harts (mode_of mode) limit rest ≡ Err BadHead)
+        (λ head. (rest : List ℕ) → judged harts (mode_of mode) limit rest ≡ Ok (Some head, rest)) }
+{
+    let mode = mode_of(mode)?;
+    RunHead::new(harts, mode, limit)
+}
+
+/// The head of version 2, which is read to its end before it is judged.
+#[tactic(auto, unfolding(crate::specs::Reading::run_head_at))]
+fn read_run_head(bytes: &[u8]) -> Result<(Option<RunHead>, &[u8]), Refused<FileRefusal>>
+    ensures { Gives (λ x. (x.0, x.1.now)) result (run_head_at bytes.now) }
+{
+    let (harts, rest) = header_u8(bytes)?;
+    let (mode, rest) = header_u8(rest)?;
+    let (limit, rest) = header_u64(rest)?;
+    match judge(harts, mode, limit) {
+        Some(head) => Ok((Some(head), rest)),
+        None => Err(Refused::Because(FileRefusal::BadHead)),
+    }
+}
+
+/// The head that a version has.
+#[tactic(auto, unfolding(crate::specs::Reading::head_at))]
+fn read_head(version: u32, bytes: &[u8]) -> Result<(Option<RunHead>, &[u8]), Refused<FileRefusal>>
+    ensures { Gives (λ x. (x.0, x.1.now)) result (head_at version bytes.now) }
+{
+    if version == 1 {
+        return Ok((None, bytes));
+    }
+    read_run_head(bytes)
 }
 
 /// The entry with index `place`, which may follow a Turn of the hart `last`.
@@ -218,12 +284,12 @@ fn read_entries(
     Ok((journal, rest))
 }
 
-#[tactic(auto, unfolding(crate::specs::Reading::file_at))]
-fn read_all(alloc: Global, bytes: &[u8]) -> Result<Journal, Refused<FileRefusal>>
-    ensures { Gives (λ journal. journal.entries) result (file_at bytes.now) }
+/// As many entries as said, and nothing behind them.
+#[tactic(auto, unfolding(crate::specs::Reading::body_at))]
+fn read_body(alloc: Global, count: u64, bytes: &[u8]) -> Result<Journal, Refused<FileRefusal>>
+    ensures { Gives (λ journal. journal.entries) result (body_at count bytes.now) }
 {
-    let (count, rest) = read_header(bytes)?;
-    let (journal, rest) = read_entries(alloc, count, rest)?;
+    let (journal, rest) = read_entries(alloc, count, bytes)?;
     if !rest.is_empty() {
         return Err(Refused::Because(FileRefusal::Extra {
             bytes: rest.len() as u64,
@@ -232,17 +298,31 @@ fn read_all(alloc: Global, bytes: &[u8]) -> Result<Journal, Refused<FileRefusal>
     Ok(journal)
 }
 
-/// The journal that the bytes spell, all of the bytes. It takes memory by the entries that are there,
-/// whatever number the header says.
-pub fn read(alloc: Global, bytes: &[u8]) -> Result<Journal, Refused<FileRefusal>>
+#[tactic(auto, unfolding(crate::specs::Reading::file_at))]
+fn read_all(alloc: Global, bytes: &[u8]) -> Result<JournalFile, Refused<FileRefusal>>
+    ensures { Gives held result (file_at bytes.now) }
+{
+    let (version, rest) = read_version(bytes)?;
+    let (count, rest) = header_u64(rest)?;
+    match read_head(version, rest) {
+        Ok((head, rest)) => {
+            let journal = read_body(alloc, count, rest)?;
+            Ok(JournalFile { head, journal })
+        }
+        Err(refusal) => Err(refusal),
+    }
+}
+
+/// What the bytes spell, all of the bytes. It takes memory by the entries that are there, whatever number the header says.
+pub fn read(alloc: Global, bytes: &[u8]) -> Result<JournalFile, Refused<FileRefusal>>
     // What is read is spelled so.
-    ensures found { IfOk result (λ journal. AreEntries journal.entries × (bytes.now ≡ spelling journal.entries)) }
+    ensures found { IfOk result (λ file. IsFile (held file) × (bytes.now ≡ spelling file.head file.journal.entries)) }
     // It can be written again.
-    ensures writable { IfOk result (λ journal. All HasFewSubsIn journal.entries) }
+    ensures writable { IfOk result (λ file. All HasFewSubsIn file.journal.entries) }
     // What is spelled so is read, unless memory runs out.
-    ensures only { (es : List Recorded) → AreEntries es → bytes.now ≡ spelling es → Gives (λ journal. journal.entries) result (Ok es) }
+    ensures only { (file : FileState) → IsFile file → bytes.now ≡ spelling file.head file.entries → Gives held result (Ok file) }
     // Which rule is the first that is broken.
-    ensures exact { Gives (λ journal. journal.entries) result (file_at bytes.now) }
+    ensures exact { Gives held result (file_at bytes.now) }
 {
     read_all(alloc, bytes)
 }

@@ -11,9 +11,12 @@ pub enum FileRefusal {
     /// The first four bytes aren't those of a journal file.
     #[error("not a journal")]
     Magic,
-    /// The version isn't 1.
+    /// The version is neither 1 nor 2.
     #[error("version {got}")]
     Version { got: u32 },
+    /// The harts, the mode, the limit of the header or the product of harts and limit isn't one of a run.
+    #[error("bad head")]
+    BadHead,
     /// In the entry with index `place`, `byte` stands for nothing: a case that isn't there, an ask that
     /// disagrees with its quota, the hart of a Turn behind a Turn of that hart, or 0 for a Turn without steps.
     #[error("bad byte {byte} at entry {place}")]

@@ -1,18 +1,25 @@
 //! Writing a journal file.
 
-ghost use Rattle.std.specs.Prelude.{◌≡◌, ◌++◌, ◌∷◌, ◌<◌, ◌≤◌, ◌^◌, ◌*◌, [], Ok, List, IfSome, IfOk, OnOk, length};
+ghost use Rattle.std.specs.Prelude.{◌≡◌, ◌+◌, ◌++◌, ◌∷◌, ◌<◌, ◌≤◌, ◌^◌, ◌*◌, [], Some, Ok, List, IfSome, IfOk, OnOk, length};
 ghost use Rattle.std.specs.List.{All, AllByRecursion, flat_map};
 ghost use Rattle.std.specs.Int.{w16, w64, to_le_bytes};
-ghost use Rattle.flat_model.specs.Log.{IsJoined};
-ghost use Rattle.journal_file.specs.Spelling.{name, kind, stored, act, filter, sub, set, origin, order, entry, header, spelling, HasFewSubs, HasFewSubsIn, FitsName, FitsKind, FitsInline, FitsAct, FitsFilter, FitsSub, FitsSet, FitsOrigin, FitsOrder, FitsEntry};
-ghost use Rattle.journal_file.specs.Table.{op_byte, cond_byte, ask_byte};
+ghost use Rattle.journal_file.specs.Head.{IsHead, mode_byte};
 ghost use Rattle.journal_file.specs.Reading.{file_at};
+ghost use Rattle.journal_file.specs.Spelling.{name, kind, stored, act, filter, sub, set, origin, order, entry};
+ghost use Rattle.journal_file.specs.Spelling.{header, head_bytes, spelling};
+ghost use Rattle.journal_file.specs.Spelling.{HasFewSubs, HasFewSubsIn, FitsName, FitsKind, FitsInline, FitsAct, FitsFilter, FitsSub};
+ghost use Rattle.journal_file.specs.Spelling.{FitsSet, FitsOrigin, FitsOrder, FitsEntry};
+ghost use Rattle.journal_file.specs.Table.{op_byte, cond_byte, ask_byte};
 
+use crate::heads::RunHead;
 use flat_model::{
-    Act, Ask, Cond, Entry, Filter, Kind, KindName, NoMemory, Op, Order, Origin, SetSpec, Sub,
+    Act, Ask, Cond, Entry, Filter, Kind, KindName, Mode, NoMemory, Op, Order, Origin, SetSpec, Sub,
 };
 use run_journal::Journal;
 use std::alloc::Global;
+
+/// The bytes before the entries of version 2.
+const HEADER_BYTES: usize = 26;
 
 fn op_code(op: Op) -> u8
     ensures { result ≡ op_byte op }
@@ -287,21 +294,39 @@ fn put_entries(out: &mut Vec<u8>, entries: &[Entry]) -> Result<(), NoMemory>
 }
 
 fn put_header(out: &mut Vec<u8>, count: usize) -> Result<(), NoMemory>
-    ensures spelled { OnOk result (out.new.items ≡ out.old.items ++ header count) }
+    ensures spelled { OnOk result (out.new.items ≡ out.old.items ++ header 2 count) }
     ensures fits { count < 2 ^ 64 }
 {
     out.extend_from_slice(b"TCGJ")?;
-    out.extend_from_slice(&1u32.to_le_bytes())?;
+    out.extend_from_slice(&2u32.to_le_bytes())?;
     out.extend_from_slice(&(count as u64).to_le_bytes())?;
     Ok(())
 }
 
-/// The one spelling of a journal, in one buffer of its size.
-pub fn write(alloc: Global, journal: &Journal) -> Result<Vec<u8>, NoMemory>
+fn mode_code(mode: Mode) -> u8
+    ensures { result ≡ mode_byte mode }
+{
+    match mode {
+        Mode::All => 0,
+        Mode::First => 1,
+    }
+}
+
+fn put_head(out: &mut Vec<u8>, head: &RunHead) -> Result<(), NoMemory>
+    ensures spelled { OnOk result (out.new.items ≡ out.old.items ++ head_bytes (Some head.now)) }
+    ensures fits { IsHead head.now }
+{
+    out.extend_from_slice(&[head.harts(), mode_code(head.mode())])?;
+    out.extend_from_slice(&head.limit().to_le_bytes())?;
+    Ok(())
+}
+
+/// The one spelling of a journal and the head of its run, in one buffer of its size.
+pub fn write(alloc: Global, head: &RunHead, journal: &Journal) -> Result<Vec<u8>, NoMemory>
     requires { All HasFewSubsIn journal.now.entries }
-    ensures spelled { IfOk result (λ bytes. bytes.items ≡ spelling journal.now.entries) }
+    ensures spelled { IfOk result (λ bytes. bytes.items ≡ spelling (Some head.now) journal.now.entries) }
     // What is written is read again.
-    ensures again { IfOk result (λ bytes. file_at bytes.items ≡ Ok journal.now.entries) }
+    ensures again { IfOk result (λ bytes. file_at bytes.items ≡ Ok (record { head = Some head.now; entries = journal.now.entries })) }
 {
     let entries = journal.entries();
     let Some(size) = file_size(entries) else {
@@ -309,6 +334,7 @@ pub fn write(alloc: Global, journal: &Journal) -> Result<Vec<u8>, NoMemory>
     };
     let mut out = Vec::with_capacity(alloc, size)?;
     put_header(&mut out, entries.len())?;
+    put_head(&mut out, head)?;
     put_entries(&mut out, entries)?;
     Ok(out)
 }
@@ -428,9 +454,9 @@ fn entry_size(what: &Entry) -> usize
 /// The length of a file, or None where it passes the memory.
 fn file_size(entries: &[Entry]) -> Option<usize>
     requires { All HasFewSubsIn entries.now }
-    ensures { IfSome result (λ size. size ≡ length (spelling entries.now)) }
+    ensures { IfSome result (λ size. size ≡ length (flat_map entry entries.now) + 26) }
 {
-    let mut size = 16usize;
+    let mut size = HEADER_BYTES;
     for each in entries {
         size = size.checked_add(entry_size(each))?;
     }

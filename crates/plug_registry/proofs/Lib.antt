@@ -1,2 +1,4 @@
 pub mod Allowed
+pub mod Endings
+pub mod Freed
 pub mod Slots

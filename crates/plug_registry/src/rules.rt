@@ -2,17 +2,14 @@
 
 ghost use Rattle.std.specs.Prelude.{◌≡◌, ◌<◌, ◌≤◌, ◌^◌, length, position, OnOk, IfSome};
 ghost use Rattle.std.specs.Result.{result_err};
-ghost use Rattle.flat_model.specs.Registry.{next_state, done_state, is_closing, calls, calling, entry_of, has_bad_range, has_bad_entry, entry_at, size_refusal, range_refusal, entry_refusal, set_refusal};
+ghost use Rattle.flat_model.specs.declared.limits.TheConstants.{CALLING_MOST};
+ghost use Rattle.flat_model.specs.Acts.{calling};
+ghost use Rattle.flat_model.specs.Registry.{next_state, done_state, is_closing, withdraws};
+ghost use Rattle.flat_model.specs.Registry.{entry_of, has_bad_range, has_bad_entry, entry_at};
+ghost use Rattle.flat_model.specs.Registry.{size_refusal, range_refusal, entry_refusal, set_refusal};
 
-use flat_model::{Act, Order, OrderRefusal, PlugState, SetSpec, Sub};
-
-/// The most subscriptions of a set, and how many of them may call.
-const SUBS: usize = 16;
-
-const CALLING: usize = 2;
-
-/// The most entries of a set.
-const ENTRIES: u8 = 64;
+use flat_model::limits::{CALLING_MOST, ENTRIES_MOST, SUBS_MOST};
+use flat_model::{Act, How, Order, OrderRefusal, PlugState, SetSpec, Sub};
 
 /// The state table: None where the state refuses the order.
 pub fn next_state(order: &Order, state: PlugState) -> Option<PlugState>
@@ -47,20 +44,15 @@ pub fn is_closing(state: PlugState) -> bool
     }
 }
 
-fn calls(act: &Act) -> bool
-    ensures { result ≡ calls act.now }
+/// Whether a set is withdrawn in this state, by how the last one has ended: a plug-in that was uninstalled while it was
+/// Idle has none to give back.
+pub fn withdraws(state: PlugState, ending: Option<How>) -> bool
+    ensures { result ≡ withdraws state ending }
 {
-    match act {
-        Act::Call { .. } | Act::Cond { .. } => true,
-        Act::Inline { .. } => false,
+    match (state, ending) {
+        (PlugState::Resetting, _) | (PlugState::Leaving, Some(How::Uninstall)) => true,
+        _ => false,
     }
-}
-
-/// How many subscriptions call a box.
-pub fn calling(subs: &[Sub]) -> usize
-    ensures { result ≡ calling subs.now }
-{
-    subs.iter().filter(|sub| calls(&sub.act)).count()
 }
 
 fn entry_of(act: &Act) -> Option<u8>
@@ -76,7 +68,7 @@ fn entry_of(act: &Act) -> Option<u8>
 #[tactic(auto, unfolding(flat_model::specs::Registry::set_refusal))]
 pub fn check_set(spec: &SetSpec) -> Result<(), OrderRefusal>
     ensures why { result_err result ≡ set_refusal spec.now }
-    ensures few { OnOk result (calling spec.now.subs ≤ 2) }
+    ensures few { OnOk result (calling spec.now.subs ≤ CALLING_MOST) }
 {
     check_size(spec)?;
     check_ranges(spec)?;
@@ -86,17 +78,14 @@ pub fn check_set(spec: &SetSpec) -> Result<(), OrderRefusal>
 #[tactic(auto, unfolding(flat_model::specs::Registry::size_refusal))]
 fn check_size(spec: &SetSpec) -> Result<(), OrderRefusal>
     ensures why { result_err result ≡ size_refusal spec.now }
-    ensures few { OnOk result (calling spec.now.subs ≤ 2) }
+    ensures few { OnOk result (calling spec.now.subs ≤ CALLING_MOST) }
 {
-    let subs = spec.subs.as_slice();
-    let calling = calling(subs);
-    if subs.len() > SUBS || calling > CALLING {
-        return Err(OrderRefusal::TooManySubs {
-            subs: subs.len() as u32,
-            calling: calling as u32,
-        });
+    let subs = spec.subs.as_slice().len() as u32;
+    let calling = spec.calling();
+    if subs > SUBS_MOST || calling > CALLING_MOST {
+        return Err(OrderRefusal::TooManySubs { subs, calling });
     }
-    if spec.entries > ENTRIES {
+    if spec.entries > ENTRIES_MOST {
         return Err(OrderRefusal::TooManyEntries {
             entries: spec.entries,
         });

@@ -5,7 +5,9 @@ use Rattle.std.specs.List.{AllByRecursion}
 use Rattle.std.proofs.lemmas.Bool.{eqb-true}
 use Rattle.flat_model.specs.declared.journals.Entry.{Entry}
 use Rattle.flat_model.specs.declared.journals.Entry.TheVariants.{Turn, Order, Back, Leave, Done}
-use Rattle.flat_model.specs.Log.{Item, Step, steps, with_entry, log_from, log, total_steps, turning, are_one, HasSteps, IsJoinedAfter, IsJoined, last_turn}
+use Rattle.flat_model.specs.declared.journals.Item.{Item}
+use Rattle.flat_model.specs.declared.journals.Item.TheVariants.{Step}
+use Rattle.flat_model.specs.Log.{steps, with_entry, log_from, log, total_steps, turning, are_one, HasSteps, IsJoinedAfter, IsJoined, last_turn}
 use Rattle.run_journal.specs.Journal.{IsSmall, joined, joined_turn, replacing, recorded, steps_in}
 
 pub steps-add : (hart n m : ℕ) (past : List Item) → steps hart (n + m) past ≡ steps hart m (steps hart n past)
@@ -58,7 +60,7 @@ replacing-cons x y ys e (Some turn) =
     ap (λ i. slice_set (x ∷ y ∷ ys) i turn) far ∙ ap (λ i. x ∷ slice_set (y ∷ ys) i turn) (sym near)
 replacing-cons x y ys e None = refl
 
-recorded-cons : (x y : Entry) (ys : List Entry) (e : Entry) → recorded (x ∷ y ∷ ys) e ≡ x ∷ recorded (y ∷ ys) e
+pub recorded-cons : (x y : Entry) (ys : List Entry) (e : Entry) → recorded (x ∷ y ∷ ys) e ≡ x ∷ recorded (y ∷ ys) e
 recorded-cons x y ys e = ap (replacing (x ∷ y ∷ ys) e) (joined_turn-cons x y ys e) ∙ replacing-cons x y ys e (joined_turn (y ∷ ys) e)
 
 -- ---- the log

@@ -1,12 +1,13 @@
 -- What a journal keeps.
-use Rattle.std.specs.Prelude.{◌≡◌, ℕ, ◌+◌, ◌-◌, ◌<◌, ◌^◌, ◌==◌, if◌then◌else◌, List, [], ◌∷◌, ◌++◌, length, slice_get, slice_set, Option, Some, None}
+use Rattle.std.specs.Prelude.{◌≡◌, ℕ, ◌+◌, ◌-◌, ◌<◌, ◌^◌, ◌==◌, if◌then◌else◌, List, [], ◌∷◌, ◌++◌, length}
+use Rattle.std.specs.Prelude.{slice_get, slice_set, Option, Some, None}
 use Rattle.std.specs.List.{AllByRecursion}
 use Rattle.flat_model.specs.declared.journals.Entry.{Entry}
 use Rattle.flat_model.specs.declared.journals.Entry.TheVariants.{Turn, Order, Back, Leave, Done}
 use Rattle.flat_model.specs.Log.{log, total_steps, IsJoined}
 
 -- the entries, and how many more there is room for
-pub record Kept : Type 0 where
+pub record JournalState : Type 0 where
   pub entries : List Entry
   pub spare : ℕ
 

@@ -1,6 +1,7 @@
 //! Entries with neighbouring Turns of one hart joined, and the number of their steps.
 
-ghost use Rattle.std.specs.Prelude.{◌≡◌, ◌+◌, ◌-◌, ◌≤◌, ◌<◌, ◌^◌, ◌++◌, ◌∷◌, [], None, length, IfSome, IfOk, OnOk, OnErr, slice_index_or, slice_set, vec_len, vec_capacity, true, false, IsTrue, ◌↔◌};
+ghost use Rattle.std.specs.Prelude.{◌≡◌, ◌+◌, ◌-◌, ◌≤◌, ◌<◌, ◌^◌, ◌++◌, ◌∷◌, ◌↔◌, [], None, false, IsTrue, IfSome, IfOk, OnOk, OnErr};
+ghost use Rattle.std.specs.Prelude.{length, slice_index_or, slice_set, vec_len, vec_capacity};
 ghost use Rattle.flat_model.specs.Log.{log, with_entry, total_steps, HasSteps, IsJoined, last_turn, turning, are_one};
 ghost use Rattle.run_journal.specs.Journal.{IsSmall, joined_turn, recorded, steps_in};
 
@@ -17,9 +18,9 @@ pub struct Journal {
 
 impl Model for Journal {
     ghost use Rattle.std.specs.Prelude.{◌-◌, vec_len, vec_capacity};
-    ghost use Rattle.run_journal.specs.Journal.{Kept, IsCounted};
+    ghost use Rattle.run_journal.specs.Journal.{JournalState, IsCounted};
 
-    ghost Value = { Kept };
+    ghost Value = { JournalState };
 
     ghost view = { λ j. record { entries = j.entries.items; spare = vec_capacity j.entries - vec_len j.entries } };
 
@@ -57,7 +58,8 @@ impl Journal {
         ensures recorded { self.new.entries ≡ recorded self.old.entries entry }
         ensures appends { log self.new.entries ≡ with_entry entry (log self.old.entries) }
         ensures joined { IsJoined self.new.entries }
-        ensures alone { are_one (last_turn None self.old.entries) (turning entry) ≡ false → self.new.entries ≡ self.old.entries ++ entry ∷ [] }
+        ensures alone { are_one (last_turn None self.old.entries) (turning entry) ≡ false
+            → self.new.entries ≡ self.old.entries ++ entry ∷ [] }
         ensures room_left { self.old.spare ≤ self.new.spare + 1 }
     {
         self.steps += steps_in(&entry);

@@ -4,5 +4,6 @@
 pub use journal::Journal;
 
 mod journal;
+pub mod laws;
 #[cfg(test)]
 mod tests;
