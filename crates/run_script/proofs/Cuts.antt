@@ -6,11 +6,11 @@ use Rattle.std.proofs.lemmas.List.Elements.{All-nil, All-cons}
 use Rattle.std.proofs.lemmas.List.Splits.{slice_split_first, slice_split_none}
 use Rattle.run_script.specs.Bytes.{before, after, pieces}
 
-some_where : (test : Bool) (x y : List ℕ) → cond test (Some x) None ≡ Some y → (test ≡ true) × (x ≡ y)
+pub some_where : (test : Bool) (x y : List ℕ) → cond test (Some x) None ≡ Some y → (test ≡ true) × (x ≡ y)
 some_where true x y e = (refl, cc)
 some_where false x y e = cc
 
-none_where : (test : Bool) (x : List ℕ) → cond test (Some x) None ≡ None → test ≡ false
+pub none_where : (test : Bool) (x : List ℕ) → cond test (Some x) None ≡ None → test ≡ false
 none_where true x e = cc
 none_where false x e = refl
 

@@ -1,1 +1,10 @@
 pub mod Cuts
+pub mod Signs
+pub mod Tables
+pub mod Digits
+pub mod ItemTexts
+pub mod HeadTexts
+pub mod PartTexts
+pub mod WordTexts
+pub mod SetRules
+pub mod OneReading

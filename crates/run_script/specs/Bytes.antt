@@ -1,6 +1,24 @@
--- Cutting a text at a byte.
+-- The signs of words, and cutting a text at a byte.
 use Rattle.std.specs.Prelude.{ℕ, ◌==◌, nat_lt, if◌then◌else◌, List, length, reverse, position, Option, Some, None}
 use Rattle.std.specs.List.{slice_split, before_first, after_first, position_or_len}
+
+abbrev pub plus : ℕ
+plus = 43
+
+abbrev pub comma : ℕ
+comma = 44
+
+abbrev pub minus : ℕ
+minus = 45
+
+abbrev pub slash : ℕ
+slash = 47
+
+abbrev pub colon : ℕ
+colon = 58
+
+abbrev pub equals : ℕ
+equals = 61
 
 -- the pieces between the bytes c
 abbrev pub pieces : ℕ → List ℕ → List (List ℕ)

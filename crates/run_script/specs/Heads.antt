@@ -17,7 +17,7 @@ use Rattle.run_script.specs.declared.refusals.SpecRule.TheVariants.{Name, Number
 use Rattle.run_script.specs.declared.heads.Head.{Head}
 use Rattle.run_script.specs.declared.heads.Head.TheVariants.{Boxed, Inline, When}
 use Rattle.run_script.specs.declared.items.Items.{Items}
-use Rattle.run_script.specs.Bytes.{before, after, tail_len}
+use Rattle.run_script.specs.Bytes.{colon, before, after, tail_len}
 use Rattle.run_script.specs.Numbers.{number, entry_number}
 use Rattle.run_script.specs.Names.{kind_named, cond_named}
 
@@ -32,7 +32,7 @@ inline_after op entry (Some imm) = inline_of op (entry_number entry) (number 10 
 
 -- an entry and a number
 unfoldable pub inline_head : Op → List ℕ → Result Head SpecRule
-inline_head op text = inline_after op (before 58 text) (after 58 text)
+inline_head op text = inline_after op (before colon text) (after colon text)
 
 abbrev pub when_of : Cond → KindName → Option ℕ → Option ℕ → Result Head SpecRule
 when_of cond kind None imm = Err Number
@@ -46,7 +46,7 @@ when_numbers cond kind entry (Some imm) = when_of cond kind (entry_number entry)
 abbrev pub when_named : Option Cond → Option KindName → List ℕ → Result Head SpecRule
 when_named None kind text = Err Name
 when_named (Some cond) None text = Err Name
-when_named (Some cond) (Some kind) text = when_numbers cond kind (before 58 text) (after 58 text)
+when_named (Some cond) (Some kind) text = when_numbers cond kind (before colon text) (after colon text)
 
 -- the kind stands after the last colon, and an entry and a number before it
 abbrev pub when_tail : Option Cond → List ℕ → Option ℕ → Result Head SpecRule
@@ -56,11 +56,11 @@ when_tail cond text (Some n) =
 
 abbrev pub when_after : Option Cond → Option (List ℕ) → Result Head SpecRule
 when_after cond None = Err Name
-when_after cond (Some text) = when_tail cond text (tail_len 58 text)
+when_after cond (Some text) = when_tail cond text (tail_len colon text)
 
 -- a condition, an entry, a number and a kind
 unfoldable pub when_head : List ℕ → Result Head SpecRule
-when_head text = when_after (cond_named (before 58 text)) (after 58 text)
+when_head text = when_after (cond_named (before colon text)) (after colon text)
 
 unfoldable pub worded_head : List ℕ → List ℕ → Result Head SpecRule
 worded_head word text =
@@ -75,7 +75,7 @@ act_head word (Some text) = worded_head word text
 
 abbrev pub or_act : Option KindName → List ℕ → Result Head SpecRule
 or_act (Some kind) text = Ok (Boxed kind)
-or_act None text = act_head (before 58 text) (after 58 text)
+or_act None text = act_head (before colon text) (after colon text)
 
 -- the head that a text spells
 unfoldable pub head_of : List ℕ → Result Head SpecRule
@@ -83,7 +83,7 @@ head_of text = or_act (kind_named text) text
 
 -- the head is a kind's name or begins with `when:`
 unfoldable pub calls_a_box : List ℕ → Bool
-calls_a_box text = is_some (kind_named text) || (bytes_eq (before 58 text) (codes "when") && is_some (after 58 text))
+calls_a_box text = is_some (kind_named text) || (bytes_eq (before colon text) (codes "when") && is_some (after colon text))
 
 abbrev pub is_when : Head → Bool
 is_when (Boxed kind) = false

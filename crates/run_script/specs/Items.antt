@@ -8,17 +8,13 @@ use Rattle.run_script.specs.declared.refusals.SpecRule.TheVariants.{Name, Number
 use Rattle.run_script.specs.declared.items.Item.{Item}
 use Rattle.run_script.specs.declared.items.Item.TheVariants.{Kinds, Pc, Class, Rw, Then}
 use Rattle.run_script.specs.declared.items.Items.{Items}
-use Rattle.run_script.specs.Bytes.{before, after}
+use Rattle.run_script.specs.Bytes.{minus, equals, before, after}
 use Rattle.run_script.specs.Numbers.{number}
-use Rattle.run_script.specs.Names.{mask}
+use Rattle.run_script.specs.Names.{rw_names, named, mask}
 
--- loads, stores or both
-unfoldable pub direction : List ℕ → Option ℕ
-direction text =
-    if bytes_eq text (codes "r") then Some 1
-    else if bytes_eq text (codes "w") then Some 2
-    else if bytes_eq text (codes "rw") then Some 3
-    else None
+-- the bits of loads, stores or both
+abbrev pub direction : List ℕ → Option ℕ
+direction text = named rw_names text
 
 abbrev pub of_bits : Names → Option ℕ → Result Item SpecRule
 of_bits names None = Err Name
@@ -55,7 +51,7 @@ between lo None = Err Name
 between lo (Some hi) = span_item (address lo) (address hi)
 
 unfoldable pub pc_item : List ℕ → Result Item SpecRule
-pc_item value = between (before 45 value) (after 45 value)
+pc_item value = between (before minus value) (after minus value)
 
 unfoldable pub named_item : List ℕ → List ℕ → Result Item SpecRule
 named_item name value =
@@ -72,7 +68,7 @@ with_value name (Some value) = named_item name value
 
 -- the item that a text spells
 unfoldable pub item_of : List ℕ → Result Item SpecRule
-item_of text = with_value (before 61 text) (after 61 text)
+item_of text = with_value (before equals text) (after equals text)
 
 -- no item was given
 abbrev pub no_items : Items

@@ -4,3 +4,5 @@ pub mod Names
 pub mod Items
 pub mod Heads
 pub mod Words
+pub mod Grammar
+pub mod Parts

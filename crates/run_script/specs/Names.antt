@@ -1,63 +1,55 @@
--- The names of kinds, conditions, events and classes. An event and a class have the bit of their filter.
-use Rattle.std.specs.Prelude.{ℕ, codes, bit_or, if◌then◌else◌, List, [], ◌∷◌, Option, Some, None, option_and_then}
-use Rattle.std.specs.Str.{bytes_eq}
+-- The names of kinds, conditions, events, classes and directions, each beside what it stands for. An event and a
+-- class have the bit of their filter.
+use Rattle.std.specs.Prelude.{ℕ, codes, bit_or, bytes_eq, if◌then◌else◌, List, [], ◌∷◌, Option, Some, None, option_and_then}
 use Rattle.flat_model.specs.declared.plugins.KindName.{KindName}
 use Rattle.flat_model.specs.declared.plugins.KindName.TheVariants.{Counts, Hot, Mem, Exec, Classes, Pages}
 use Rattle.flat_model.specs.declared.plugins.Cond.{Cond}
 use Rattle.flat_model.specs.declared.plugins.Cond.TheVariants.{Never, Always, Eq, Ne, Lt, Le, Gt, Ge}
 use Rattle.run_script.specs.declared.names.Names.{Names}
 use Rattle.run_script.specs.declared.names.Names.TheVariants as names
-use Rattle.run_script.specs.Bytes.{pieces}
+use Rattle.run_script.specs.Bytes.{slash, pieces}
+
+abbrev pub kind_names : List (KindName × List ℕ)
+kind_names =
+    (Counts, codes "counts") ∷ (Hot, codes "hot") ∷ (Mem, codes "mem") ∷ (Exec, codes "exec")
+    ∷ (Classes, codes "classes") ∷ (Pages, codes "pages") ∷ []
+
+abbrev pub cond_names : List (Cond × List ℕ)
+cond_names =
+    (Never, codes "never") ∷ (Always, codes "always") ∷ (Eq, codes "eq") ∷ (Ne, codes "ne")
+    ∷ (Lt, codes "lt") ∷ (Le, codes "le") ∷ (Gt, codes "gt") ∷ (Ge, codes "ge") ∷ []
+
+abbrev pub event_names : List (ℕ × List ℕ)
+event_names =
+    (1, codes "init") ∷ (2, codes "block") ∷ (4, codes "insn") ∷ (8, codes "mem")
+    ∷ (16, codes "sys") ∷ (32, codes "sysret") ∷ (64, codes "exit") ∷ []
+
+abbrev pub class_names : List (ℕ × List ℕ)
+class_names =
+    (1, codes "alu") ∷ (2, codes "muldiv") ∷ (4, codes "load") ∷ (8, codes "store") ∷ (16, codes "branch")
+    ∷ (32, codes "jump") ∷ (64, codes "atomic") ∷ (128, codes "system") ∷ (256, codes "illegal") ∷ []
+
+-- loads, stores or both
+abbrev pub rw_names : List (ℕ × List ℕ)
+rw_names = (1, codes "r") ∷ (2, codes "w") ∷ (3, codes "rw") ∷ []
+
+-- what a text names in a table
+abbrev pub named : {A : Type 0} → List (A × List ℕ) → List ℕ → Option A
+named [] text = None
+named (row ∷ rows) text = if bytes_eq text row.1 then Some row.0 else named rows text
 
 abbrev pub kind_named : List ℕ → Option KindName
-kind_named text =
-    if bytes_eq text (codes "counts") then Some Counts
-    else if bytes_eq text (codes "hot") then Some Hot
-    else if bytes_eq text (codes "mem") then Some Mem
-    else if bytes_eq text (codes "exec") then Some Exec
-    else if bytes_eq text (codes "classes") then Some Classes
-    else if bytes_eq text (codes "pages") then Some Pages
-    else None
+kind_named text = named kind_names text
 
 abbrev pub cond_named : List ℕ → Option Cond
-cond_named text =
-    if bytes_eq text (codes "never") then Some Never
-    else if bytes_eq text (codes "always") then Some Always
-    else if bytes_eq text (codes "eq") then Some Eq
-    else if bytes_eq text (codes "ne") then Some Ne
-    else if bytes_eq text (codes "lt") then Some Lt
-    else if bytes_eq text (codes "le") then Some Le
-    else if bytes_eq text (codes "gt") then Some Gt
-    else if bytes_eq text (codes "ge") then Some Ge
-    else None
+cond_named text = named cond_names text
 
-abbrev pub event_bit : List ℕ → Option ℕ
-event_bit text =
-    if bytes_eq text (codes "init") then Some 1
-    else if bytes_eq text (codes "block") then Some 2
-    else if bytes_eq text (codes "insn") then Some 4
-    else if bytes_eq text (codes "mem") then Some 8
-    else if bytes_eq text (codes "sys") then Some 16
-    else if bytes_eq text (codes "sysret") then Some 32
-    else if bytes_eq text (codes "exit") then Some 64
-    else None
-
-abbrev pub class_bit : List ℕ → Option ℕ
-class_bit text =
-    if bytes_eq text (codes "alu") then Some 1
-    else if bytes_eq text (codes "muldiv") then Some 2
-    else if bytes_eq text (codes "load") then Some 4
-    else if bytes_eq text (codes "store") then Some 8
-    else if bytes_eq text (codes "branch") then Some 16
-    else if bytes_eq text (codes "jump") then Some 32
-    else if bytes_eq text (codes "atomic") then Some 64
-    else if bytes_eq text (codes "system") then Some 128
-    else if bytes_eq text (codes "illegal") then Some 256
-    else None
+abbrev pub names_of : Names → List (ℕ × List ℕ)
+names_of names.Events = event_names
+names_of names.Classes = class_names
 
 abbrev pub bit_named : Names → List ℕ → Option ℕ
-bit_named names.Events text = event_bit text
-bit_named names.Classes text = class_bit text
+bit_named names text = named (names_of names) text
 
 -- some bits and those of more names
 abbrev pub mask_from : Names → ℕ → List (List ℕ) → Option ℕ
@@ -66,4 +58,4 @@ mask_from names bits (text ∷ more) = option_and_then (λ bit. mask_from names 
 
 -- the bits of the names between slashes
 abbrev pub mask : Names → List ℕ → Option ℕ
-mask names text = mask_from names 0 (pieces 47 text)
+mask names text = mask_from names 0 (pieces slash text)

@@ -4,14 +4,15 @@ use Rattle.std.specs.Prelude.{ℕ, ◌+◌, ◌≡◌, ◌&&◌, max, nat_le, Bo
 use Rattle.flat_model.specs.declared.plugins.SetSpec.{SetSpec}
 use Rattle.flat_model.specs.declared.refusals.Refused.{Refused}
 use Rattle.flat_model.specs.declared.refusals.Refused.TheVariants.{Because, NoMemory}
-use Rattle.flat_model.specs.Registry.{calling}
+use Rattle.flat_model.specs.declared.limits.TheConstants.{SUBS_MOST, CALLING_MOST}
+use Rattle.flat_model.specs.Acts.{calling}
 use Rattle.run_script.specs.declared.refusals.SpecRule.{SpecRule}
 use Rattle.run_script.specs.declared.refusals.SpecRule.TheVariants.{Subs, Boxes}
 use Rattle.run_script.specs.declared.refusals.SpecRefusal.{SpecRefusal}
 use Rattle.run_script.specs.declared.heads.Head.{Head}
 use Rattle.run_script.specs.declared.items.Items.{Items}
 use Rattle.run_script.specs.declared.words.Draft.{Draft}
-use Rattle.run_script.specs.Bytes.{pieces, before, after}
+use Rattle.run_script.specs.Bytes.{plus, comma, pieces, before, after}
 use Rattle.run_script.specs.Items.{item_of, with_item, no_items}
 use Rattle.run_script.specs.Heads.{head_of, calls_a_box, is_when, sub_of, entries_of}
 
@@ -38,7 +39,7 @@ items_from when column items (text ∷ more) =
 -- the items after a head, where it has any
 abbrev pub items_after : Bool → ℕ → Option (List ℕ) → Result Items SpecRefusal
 items_after when column None = Ok no_items
-items_after when column (Some text) = items_from when column no_items (pieces 44 text)
+items_after when column (Some text) = items_from when column no_items (pieces comma text)
 
 -- a set with one more subscription
 abbrev pub with_sub : SetSpec → Head → Items → SetSpec
@@ -53,14 +54,14 @@ with_head column set len rest head =
 -- the rules of a part's number, which come before its own
 unfoldable pub with_room : SetSpec → List ℕ → Result Head SpecRule
 with_room set text =
-    if nat_le 16 (length set.subs) then Err Subs
-    else if calls_a_box text && nat_le 2 (calling set.subs) then Err Boxes
+    if nat_le SUBS_MOST (length set.subs) then Err Subs
+    else if calls_a_box text && nat_le CALLING_MOST (calling set.subs) then Err Boxes
     else head_of text
 
 -- a set with the part that a text spells
 unfoldable pub with_part : ℕ → SetSpec → List ℕ → Result SetSpec SpecRefusal
 with_part column set text =
-    next (placed column (with_room set (before 44 text))) (with_head column set (length (before 44 text)) (after 44 text))
+    next (placed column (with_room set (before comma text))) (with_head column set (length (before comma text)) (after comma text))
 
 -- a set with the parts that texts spell, of which the first begins at the column
 abbrev pub parts_from : ℕ → SetSpec → List (List ℕ) → Result SetSpec SpecRefusal
@@ -70,7 +71,7 @@ parts_from column set (text ∷ more) =
 
 -- what a plug-in word spells
 abbrev pub spelt : List ℕ → Result SetSpec SpecRefusal
-spelt word = parts_from 1 (record { entries = 0; subs = [] }) (pieces 43 word)
+spelt word = parts_from 1 (record { entries = 0; subs = [] }) (pieces plus word)
 
 -- the set that a draft has so far
 abbrev pub drafted : Draft → SetSpec

@@ -2,14 +2,14 @@
 
 ghost use Rattle.std.specs.Prelude.{◌≡◌, ◌≤◌, IfOk};
 ghost use Rattle.std.specs.Option.{ForSome};
-ghost use Rattle.run_script.specs.Bytes.{tail_len};
+ghost use Rattle.run_script.specs.Bytes.{colon, tail_len};
 ghost use Rattle.run_script.specs.Heads.{inline_of, inline_head, when_of, when_numbers, when_named, when_tail, when_head, worded_head, head_of, calls_a_box, is_when, plain, kind_events, usual_events, act_of, filter_of, sub_of, entries_of, EntryFits};
 
-use super::bytes::{cut, is, tail_len};
-use super::items::{Items, Span};
-use super::names::{cond_named, kind_named};
-use super::numbers::{DECIMAL, DECIMAL_DIGITS, entry_number, number};
-use super::refusals::SpecRule;
+use crate::bytes::{cut, is, tail_len};
+use crate::items::{Items, Span};
+use crate::names::{cond_named, kind_named};
+use crate::numbers::{DECIMAL, DECIMAL_DIGITS, entry_number, number};
+use crate::refusals::SpecRule;
 use flat_model::{Act, Ask, Cond, Filter, Kind, KindName, Op, Sub};
 
 /// A head. An entry is at most 63.
@@ -95,7 +95,7 @@ fn when_named(cond: Option<Cond>, kind: Option<KindName>, text: &[u8]) -> Result
 }
 
 fn when_tail(cond: Option<Cond>, text: &[u8]) -> Result<Head, SpecRule>
-    ensures value { result ≡ when_tail cond text.now (tail_len 58 text.now) }
+    ensures value { result ≡ when_tail cond text.now (tail_len colon text.now) }
     ensures small { IfOk result EntryFits }
 {
     match tail_len(text, b':') {

@@ -3,10 +3,10 @@
 ghost use Rattle.std.specs.Prelude.{◌≡◌, true};
 ghost use Rattle.run_script.specs.Items.{direction, bits_item, rw_item, then_item, address, span_item, pc_item, named_item, item_of, with_item};
 
-use super::bytes::{cut, is};
-use super::names::{Names, mask};
-use super::numbers::{DECIMAL, DECIMAL_DIGITS, HEXADECIMAL, HEXADECIMAL_DIGITS, number};
-use super::refusals::SpecRule;
+use crate::bytes::{cut, is};
+use crate::names::{Names, mask};
+use crate::numbers::{DECIMAL, DECIMAL_DIGITS, HEXADECIMAL, HEXADECIMAL_DIGITS, number};
+use crate::refusals::SpecRule;
 
 /// The addresses of a filter, both inclusive.
 #[derive(Clone, Copy)]
@@ -35,7 +35,6 @@ pub struct Items {
     pub then_store: Option<u64>,
 }
 
-#[tactic(auto, unfolding(crate::specs::Items::direction))]
 fn direction(text: &[u8]) -> Option<u8>
     ensures { result ≡ direction text.now }
 {

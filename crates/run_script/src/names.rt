@@ -1,9 +1,9 @@
 //! The names of kinds, conditions, events and classes.
 
 ghost use Rattle.std.specs.Prelude.{◌≡◌};
-ghost use Rattle.run_script.specs.Names.{kind_named, cond_named, event_bit, class_bit, bit_named, mask};
+ghost use Rattle.run_script.specs.Names.{event_names, class_names, named, kind_named, cond_named, bit_named, mask};
 
-use super::bytes::{cut, is};
+use crate::bytes::{cut, is};
 use flat_model::{Cond, KindName};
 
 /// Which names a list has.
@@ -60,7 +60,7 @@ pub fn cond_named(text: &[u8]) -> Option<Cond>
 }
 
 fn event_bit(text: &[u8]) -> Option<u16>
-    ensures { result ≡ event_bit text.now }
+    ensures { result ≡ named event_names text.now }
 {
     if is(text, "init") {
         Some(1)
@@ -82,7 +82,7 @@ fn event_bit(text: &[u8]) -> Option<u16>
 }
 
 fn class_bit(text: &[u8]) -> Option<u16>
-    ensures { result ≡ class_bit text.now }
+    ensures { result ≡ named class_names text.now }
 {
     if is(text, "alu") {
         Some(1)

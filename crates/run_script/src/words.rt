@@ -1,23 +1,27 @@
 //! Plug-in words.
 
-ghost use Rattle.std.specs.Prelude.{◌≡◌, ◌+◌, ◌<◌, ◌≤◌, ◌^◌, length, option_map, IfOk, OnOk};
+ghost use Rattle.std.specs.Prelude.{◌≡◌, ◌+◌, ◌<◌, ◌≤◌, ◌^◌, List, length, option_map, IfOk, OnOk};
 ghost use Rattle.std.specs.Option.{ForSome};
-ghost use Rattle.run_script.specs.Bytes.{pieces};
+ghost use Rattle.run_script.specs.Bytes.{plus, comma, pieces};
 ghost use Rattle.run_script.specs.Words.{placed, with_text, items_from, items_after, with_head, with_room, with_part, parts_from, spelt, drafted, Gives};
 ghost use Rattle.run_script.specs.Heads.{EntryFits};
-ghost use Rattle.flat_model.specs.Registry.{calls, calling};
+ghost use Rattle.run_script.specs.Grammar.{Part, SpellsWord};
+ghost use Rattle.run_script.specs.Parts.{set_of, KeepsRules};
+ghost use Rattle.flat_model.specs.Acts.{calling};
+ghost use Rattle.flat_model.specs.Registry.{set_refusal};
 
-use super::bytes::cut;
-use super::heads::{Head, calls_a_box, entries_of, head_of, is_when, sub_of};
-use super::items::{Items, item_of, with_item};
-use super::refusals::{SpecRefusal, SpecRule};
-use flat_model::{Act, Refused, SetSpec, Sub, Subs};
+use crate::bytes::cut;
+use crate::heads::{Head, calls_a_box, entries_of, head_of, is_when, sub_of};
+use crate::items::{Items, item_of, with_item};
+use crate::refusals::{SpecRefusal, SpecRule};
+use flat_model::limits::{CALLING_MOST, SUBS_MOST};
+use flat_model::{Refused, SetSpec, Sub, Subs};
 use std::alloc::Global;
 
 /// The most parts of a word, and how many of them may call.
-const PARTS: usize = 16;
+const PARTS: usize = SUBS_MOST as usize;
 
-const CALLING: usize = 2;
+const CALLING: usize = CALLING_MOST as usize;
 
 /// A set that is being read.
 #[derive(Drop)]
@@ -48,7 +52,7 @@ fn placed_text(when: bool, column: u64, items: Items, text: &[u8]) -> Result<Ite
 #[tactic(auto, using(crate::proofs::Cuts::whole, crate::proofs::Cuts::first_off))]
 fn items_from(when: bool, column: u64, items: Items, text: &[u8]) -> Result<Items, SpecRefusal>
     requires { column + length text.now < 2 ^ 64 }
-    ensures { result ≡ items_from when column items (pieces 44 text.now) }
+    ensures { result ≡ items_from when column items (pieces comma text.now) }
 {
     let (piece, rest) = cut(text, b',');
     match placed_text(when, column, items, piece) {
@@ -80,16 +84,7 @@ fn items_after(when: bool, column: u64, rest: Option<&[u8]>) -> Result<Items, Sp
 fn calling(subs: &[Sub]) -> usize
     ensures { result ≡ calling subs.now }
 {
-    subs.iter().filter(|sub| calls(&sub.act)).count()
-}
-
-fn calls(act: &Act) -> bool
-    ensures { result ≡ calls act.now }
-{
-    match act {
-        Act::Call { .. } | Act::Cond { .. } => true,
-        Act::Inline { .. } => false,
-    }
+    subs.iter().filter(|sub| sub.act.calls()).count()
 }
 
 #[tactic(auto, unfolding(crate::specs::Words::with_room))]
@@ -149,7 +144,7 @@ fn with_part(column: u64, draft: Draft, text: &[u8]) -> Result<Draft, Refused<Sp
 #[tactic(auto, using(crate::proofs::Cuts::whole, crate::proofs::Cuts::first_off))]
 fn parts_from(column: u64, draft: Draft, text: &[u8]) -> Result<Draft, Refused<SpecRefusal>>
     requires { column + length text.now + 1 < 2 ^ 64 }
-    ensures value { Gives drafted result (parts_from column (drafted draft) (pieces 43 text.now)) }
+    ensures value { Gives drafted result (parts_from column (drafted draft) (pieces plus text.now)) }
     ensures few { IfOk result (λ now. length now.subs.items ≤ 16) }
 {
     let (piece, rest) = cut(text, b'+');
@@ -162,19 +157,38 @@ fn parts_from(column: u64, draft: Draft, text: &[u8]) -> Result<Draft, Refused<S
     }
 }
 
-/// The set that a plug-in word spells. The refusal is the first one, and its column is in bytes from 1.
-pub fn plugin_word(alloc: Global, text: &str) -> Result<SetSpec, Refused<SpecRefusal>>
+// The set that a word spells, or its first refusal.
+fn word(alloc: Global, text: &[u8]) -> Result<SetSpec, Refused<SpecRefusal>>
+    requires { length text.now + 2 < 2 ^ 64 }
     ensures { Gives (λ set. set) result (spelt text.now) }
 {
     let draft = Draft {
         entries: 0,
         subs: Vec::new(alloc),
     };
-    match parts_from(1, draft, text.as_bytes()) {
+    match parts_from(1, draft, text) {
         Err(why) => Err(why),
         Ok(draft) => Ok(SetSpec {
             entries: draft.entries,
             subs: Subs::new(draft.subs),
         }),
     }
+}
+
+/// The set that a plug-in word spells. The refusal is the first one, and its column is in bytes from 1.
+pub fn plugin_word(alloc: Global, text: &str) -> Result<SetSpec, Refused<SpecRefusal>>
+    // An accepted word is one of the grammar. Its parts keep the rules, its set is theirs, and it breaks no rule of sets.
+    ensures only { IfOk result (λ set. (parts : List Part) × SpellsWord parts text.now) }
+    ensures parts { IfOk result (λ set. (parts : List Part) → SpellsWord parts text.now
+        → KeepsRules parts × (set ≡ set_of parts)) }
+    ensures sound { IfOk result (λ set. set_refusal set ≡ None) }
+
+    // Each word of the grammar that keeps the rules is read as its parts, want of memory aside.
+    ensures read { (parts : List Part) → SpellsWord parts text.now → KeepsRules parts
+        → Gives (λ set. set) result (Ok (set_of parts)) }
+
+    // Any other word is refused, with the first rule that it breaks from the left.
+    ensures first { Gives (λ set. set) result (spelt text.now) }
+{
+    word(alloc, text.as_bytes())
 }
