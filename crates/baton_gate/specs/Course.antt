@@ -2,6 +2,8 @@
 use Rattle.std.specs.Prelude.{◌≡◌, ◌≢◌, ℕ, ◌+◌, ◌<◌, ◌≤◌, true, false, List, [], ◌∷◌, ◌++◌, length, All, Some, None, count_by, ◌⊎◌}
 use mathlib.Core.Option.{some}
 use lib.ListN.{get_elem?}
+use Rattle.crossbeam_queue.specs.Fifo.{Pushes, Pops}
+use Rattle.crossbeam_queue.specs.Passes.{view, Pass as Place}
 use Rattle.baton_gate.specs.declared.views.Ended.{Ended}
 use Rattle.baton_gate.specs.declared.views.View.{View}
 use Rattle.baton_gate.specs.declared.rule.Baton.{Baton}
@@ -24,7 +26,7 @@ module _ {I F : Type 0} where
 
   -- the pass of party 0, once the value is in the gate
   abbrev pub opened : ℕ → F → List I → View I F
-  opened parties frame log = record { spent = false; holds = false; party = 0; made = 1; parties = parties; frame = Some frame; opening = log; seen = log; ended = [] }
+  opened parties frame log = record unopened { parties = parties; frame = Some frame; opening = log; seen = log }
 
   -- a pass that was joined into another
   abbrev pub spent_view : View I F
@@ -44,7 +46,7 @@ module _ {I F : Type 0} where
 
   -- that pass: it has the next number, and has seen the opening log
   abbrev pub newcomer : View I F → View I F
-  newcomer v = record { spent = false; holds = false; party = v.made; made = 0; parties = v.parties; frame = v.frame; opening = v.opening; seen = v.opening; ended = [] }
+  newcomer v = record unopened { party = v.made; made = 0; parties = v.parties; frame = v.frame; opening = v.opening; seen = v.opening }
 
   -- what a pass stands for once it was joined into another
   abbrev pub ended_of : View I F → List (Ended I)
@@ -101,3 +103,11 @@ module _ {S I F : Type 0} (log_of : S → List I) (party_of : I → ℕ) (frame_
     pub own : Ahead party_of (log_of x) v.party v.seen
     pub ended : All (λ (e : Ended I). Ahead party_of (log_of x) e.party e.seen) v.ended
     pub within : Within party_of (log_of x) v.parties v.opening
+
+  -- at any moment the value may leave the queue by this pass, and then the pass knows what `then` says
+  abbrev pub MayPop : Place (Baton S) (View I F) → (View I F → Baton S → View I F → Type 0) → Type 0
+  MayPop place then = Pops InCourse place.id (view place) (then (view place))
+
+  -- at any moment the value may enter the queue, where that has room for it, by this pass, and then the pass knows what `then` says
+  abbrev pub MayPush : ℕ → Place (Baton S) (View I F) → Baton S → (View I F → Baton S → View I F → Type 0) → Type 0
+  MayPush room place x then = Pushes InCourse room place.id (view place) x (then (view place) x)

@@ -1,21 +1,21 @@
--- How a log goes on.
+-- How a log goes on. A log is a list with its latest item first.
 use Rattle.std.specs.Prelude.{◌≡◌, ◌≢◌, ℕ, ◌<◌, List, ◌++◌, All}
 
--- the log begins with what was seen, and each item after that is such a one
+-- the log began with what was seen, and each later item is such a one
 pub record GoesOn {I : Type 0} (Later : I → Type 0) (seen log : List I) : Type 0 where
   pub more : List I
-  pub begins : log ≡ seen ++ more
+  pub begins : log ≡ more ++ seen
   pub later : All Later more
 
 module _ {I : Type 0} (party : I → ℕ) where
-  -- the log begins with what was seen, and has after it no item of the party
+  -- the log began with what was seen, and has no later item of the party
   abbrev pub Ahead : List I → ℕ → List I → Type 0
   Ahead log p seen = GoesOn (λ i. party i ≢ p) seen log
 
-  -- the log is what was seen, followed by items of the party alone
+  -- the log is what was seen and later items of the party alone
   abbrev pub Adds : List I → ℕ → List I → Type 0
   Adds log p seen = GoesOn (λ i. party i ≡ p) seen log
 
-  -- the log begins with the opening, and each item after that has a party below n
+  -- the log began with the opening, and each later item has a party below n
   abbrev pub Within : List I → ℕ → List I → Type 0
   Within log n opening = GoesOn (λ i. party i < n) opening log

@@ -1,5 +1,5 @@
 -- What a clause says of a gate and of its passes.
-use Rattle.std.specs.Prelude.{◌≡◌, ℕ, Bool, false, List, [], Option, Some, IsSome}
+use Rattle.std.specs.Prelude.{◌≡◌, ℕ, Bool, false, List, [], Option, Some, IsSome, slice_get}
 use Rattle.crossbeam_queue.specs.Passes.{view, IsPassOf as IsPlaceOf}
 use Rattle.baton_gate.specs.declared.views.Ended.{Ended}
 use Rattle.baton_gate.specs.declared.views.View.{View}
@@ -53,3 +53,7 @@ module _ {S I F : Type 0} where
     pub free : holds p ≡ false
     pub none_ended : ended p ≡ []
     pub no_takes : p.takes ≡ 0
+
+  -- each pass of a gate as it is made, in the order of their numbers
+  abbrev pub AreNew : Gate S I F → List (Pass S I F) → ℕ → List I → F → Type 0
+  AreNew gate passes count log frame = (k : ℕ) (p : Pass S I F) → slice_get passes k ≡ Some p → IsNewPass gate p k count log frame

@@ -8,7 +8,7 @@ pub trait Kept: Drop {
     /// What no hold changes: plain data.
     type Frame;
 
-    /// The log, oldest first.
+    /// The log, latest first.
     ghost log: { Self → List Self.Item };
 
     /// The party that an item is of.
@@ -18,4 +18,19 @@ pub trait Kept: Drop {
 
     /// Whether the value may be given.
     ghost caught_up: { Self → Type 0 };
+}
+
+/// A box is kept as what it holds is, and a hold then moves the box alone.
+impl<S: Kept> Kept for Box<S> {
+    type Item = S::Item;
+
+    type Frame = S::Frame;
+
+    ghost log = { λ b. S.log b.value };
+
+    ghost party = { S.party };
+
+    ghost frame = { λ b. S.frame b.value };
+
+    ghost caught_up = { λ b. S.caught_up b.value };
 }

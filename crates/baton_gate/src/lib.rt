@@ -1,7 +1,7 @@
 //! One shared value, which threads take from a gate and give back.
 //!
-//! Whoever takes it knows that its log begins with all that this thread had seen, and that nothing after
-//! that is of this thread's own party. `docs/architecture.md`, "The baton", says what rests on it.
+//! Whoever takes it knows that its log began with all that this thread had seen, and that no later item is
+//! of this thread's own party. `docs/architecture.md`, "The baton", says what rests on it.
 #![tactic(auto)]
 
 pub use gate::Gate;

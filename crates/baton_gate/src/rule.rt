@@ -9,7 +9,7 @@ use std::marker::PhantomData;
 #[derive(Drop)]
 pub struct Baton<S> {
     pub state: S,
-    pub parties: u8,
+    pub parties: u64,
 }
 
 /// The rule.

@@ -17,7 +17,7 @@ pub struct View<I, F> {
     /// The number of passes that were made, as the pass of party 0 knows it.
     pub made: u8,
     /// The number of parties.
-    pub parties: u8,
+    pub parties: u64,
     /// None until the value is in the gate.
     pub frame: Option<F>,
     /// The log of the value that the gate was made with.

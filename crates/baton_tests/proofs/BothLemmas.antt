@@ -9,12 +9,13 @@ use Rattle.baton_gate.specs.Logs.{GoesOn, Ahead, Within}
 use Rattle.baton_gate.specs.Course.{joined, ended_of}
 use Rattle.baton_gate.specs.Passes.{IsNewPass, known, seen, opening, parties, ended}
 use Rattle.baton_tests.specs.declared.entries.Entry.{Entry}
+use Rattle.baton_tests.specs.declared.entries.Entry.TheVariants.{Step, Parked as Put}
 use Rattle.baton_tests.specs.declared.shelf.Parked.{Parked}
 use Rattle.baton_tests.specs.Shelf.{hart_of, heard_by, parked_in, HasBox}
 use Rattle.baton_tests.specs.Turns.{IsAtWork, IsDone}
-use Rattle.baton_tests.specs.Boxes.{IsBoxOf, HasBoth}
+use Rattle.baton_tests.specs.Boxes.{HasHeard, KnowsBoxes, IsBoxOf, HasBoth}
 use Rattle.baton_tests.proofs.FreePasses.{new_free}
-use Rattle.baton_tests.proofs.ShelfLemmas.{heard_ahead, parked_in-append, parked_others, Known}
+use Rattle.baton_tests.proofs.ShelfLemmas.{heard_ahead, parked_later}
 
 -- a pass of a new gate for two
 pub starts : {S F : Type 0} (gate : Gate S Entry F) (p : Pass S Entry F) (number : ℕ) (log : List Entry) (frame : F) → log ≡ [] → IsNewPass gate p number 2 log frame
@@ -39,31 +40,35 @@ below_two zero l = inl refl
 below_two (suc zero) l = inr refl
 below_two (suc (suc k)) l = absurd (omega arith)
 
-still_there : (P : Entry → Type 0) (before log : List Entry) (h : ℕ) → GoesOn P before log → Contains (parked_in before) h → Contains (parked_in log) h
-still_there P before log h g there =
-    subst (λ (l : List ℕ). Contains l h) (sym (ap parked_in g.begins ∙ parked_in-append before g.more)) (Contains-append_left (parked_in before) (parked_in g.more) h there)
+still_there : (h : ℕ) (more seen : List Entry) → Contains (parked_in seen) h → Contains (parked_in (more ++ seen)) h
+still_there h [] seen there = there
+still_there h (Step hart number ∷ more) seen there = still_there h more seen there
+still_there h (Put hart ∷ more) seen there = Contains-append_left (parked_in (more ++ seen)) (hart ∷ []) h (still_there h more seen there)
+
+there_now : (P : Entry → Type 0) (seen log : List Entry) (h : ℕ) → GoesOn P seen log → Contains (parked_in seen) h → Contains (parked_in log) h
+there_now P seen log h g there = subst (λ (l : List Entry). Contains (parked_in l) h) (sym g.begins) (still_there h g.more seen there)
 
 module _ {W : Type 0} (stands : W → List ℕ → Type 0) where
-  box_of : (log : List Entry) (b : Parked W) (h : ℕ) (numbers : List ℕ) → b.hart ≡ h → heard_by h log ≡ numbers → Known stands log b → IsBoxOf stands b h numbers
+  box_of : (log : List Entry) (b : Parked W) (h : ℕ) (numbers : List ℕ) → b.hart ≡ h → heard_by h log ≡ numbers → HasHeard stands log b → IsBoxOf stands b h numbers
   box_of log b h numbers e f know = record { hart_is = e; heard = subst (λ (l : List ℕ). stands b.listener l) (ap (λ (k : ℕ). heard_by k log) e ∙ f) know }
 
   each_box : (log : List Entry) (xs ys : List ℕ) → heard_by 0 log ≡ xs → heard_by 1 log ≡ ys → (boxes : List (Parked W)) → All (λ k. k < 2) (map (λ (b : Parked W). b.hart) boxes)
-      → All (Known stands log) boxes → All (λ b. IsBoxOf stands b 0 xs ⊎ IsBoxOf stands b 1 ys) boxes
+      → All (HasHeard stands log) boxes → All (λ b. IsBoxOf stands b 0 xs ⊎ IsBoxOf stands b 1 ys) boxes
   each_box log xs ys f g [] below know = All-nil (λ b. IsBoxOf stands b 0 xs ⊎ IsBoxOf stands b 1 ys)
   each_box log xs ys f g (b ∷ bs) below know =
       let harts : List ℕ = map (λ (b : Parked W). b.hart) bs in
-      let know' : Known stands log b = All-head (Known stands log) b bs know in
+      let know' : HasHeard stands log b = All-head (HasHeard stands log) b bs know in
       All-cons (λ b. IsBoxOf stands b 0 xs ⊎ IsBoxOf stands b 1 ys) b bs
       (⊎_elim (λ (e : b.hart ≡ 0). inl (box_of log b 0 xs e f know')) (λ (e : b.hart ≡ 1). inr (box_of log b 1 ys e g know')) (below_two b.hart (All-head (λ k. k < 2) b.hart harts below)))
-      (each_box log xs ys f g bs (All-tail (λ k. k < 2) b.hart harts below) (All-tail (Known stands log) b bs know))
+      (each_box log xs ys f g bs (All-tail (λ k. k < 2) b.hart harts below) (All-tail (HasHeard stands log) b bs know))
 
   -- from what one take tells, once the second pass was joined into the first
   pub has_both : {S F : Type 0} (gate : Gate S Entry F) (first second both : Pass S Entry F) (xs ys : List ℕ) (log : List Entry) (boxes : List (Parked W)) (number number' : ℕ)
       → number ≡ 0 → number' ≡ 1 → IsDone gate first number xs → IsDone gate second number' ys
       → known both ≡ joined (known first) (known second) → both.party ≡ first.party
       → Ahead hart_of log both.party (seen both) → All (λ (e : Ended Entry). Ahead hart_of log e.party e.seen) (ended both) → Within hart_of log (parties both) (opening both)
-      → map (λ (b : Parked W). b.hart) boxes ≡ parked_in log → All (Known stands log) boxes → HasBoth stands boxes xs ys
-  has_both {S} {F} gate first second both xs ys log boxes number number' n0 n1 done done' e same own others within harts know =
+      → KnowsBoxes stands boxes log → HasBoth stands boxes xs ys
+  has_both {S} {F} gate first second both xs ys log boxes number number' n0 n1 done done' e same own others within knows =
       let own' : Ahead hart_of log 0 (seen first) =
       subst (λ (y : ℕ × List Entry). Ahead hart_of log y.0 y.1) (λ i. ((same ∙ done.party_is ∙ n0) i, ap (λ (v : View Entry F). v.seen) e i)) own in
       let Told : Ended Entry → Type 0 = λ t. Ahead hart_of log t.party t.seen in
@@ -74,11 +79,12 @@ module _ {W : Type 0} (stands : W → List ℕ → Type 0) where
       (λ i. ((ap (λ (v : View Entry F). v.parties) e ∙ done.of_two.count_is) i, (ap (λ (v : View Entry F). v.opening) e ∙ done.of_two.began) i)) within in
       let heard : heard_by 0 log ≡ xs = heard_ahead 0 (seen first) log own' ∙ ap (λ (k : ℕ). heard_by k (seen first)) (sym n0) ∙ done.heard in
       let heard' : heard_by 1 log ≡ ys = heard_ahead 1 (seen second) log other' ∙ ap (λ (k : ℕ). heard_by k (seen second)) (sym n1) ∙ done'.heard in
-      let below : All (λ k. k < 2) (parked_in log) = subst (λ (l : List Entry). All (λ k. k < 2) (parked_in l)) (sym within'.begins) (parked_others (λ k. k < 2) within'.more within'.later) in
-      let there : Contains (parked_in log) 0 = still_there (λ i. hart_of i ≢ 0) (seen first) log 0 own' (subst (λ (k : ℕ). Contains (parked_in (seen first)) k) n0 done.parked) in
-      let there' : Contains (parked_in log) 1 = still_there (λ i. hart_of i ≢ 1) (seen second) log 1 other' (subst (λ (k : ℕ). Contains (parked_in (seen second)) k) n1 done'.parked) in
+      let below : All (λ k. k < 2) (parked_in log) = subst (λ (l : List Entry). All (λ k. k < 2) (parked_in l)) (sym within'.begins)
+      (parked_later (λ k. k < 2) within'.more [] (All-nil (λ k. k < 2)) within'.later) in
+      let there : Contains (parked_in log) 0 = there_now (λ i. hart_of i ≢ 0) (seen first) log 0 own' (subst (λ (k : ℕ). Contains (parked_in (seen first)) k) n0 done.parked) in
+      let there' : Contains (parked_in log) 1 = there_now (λ i. hart_of i ≢ 1) (seen second) log 1 other' (subst (λ (k : ℕ). Contains (parked_in (seen second)) k) n1 done'.parked) in
       record {
-        each = each_box log xs ys heard heard' boxes (subst (λ (l : List ℕ). All (λ k. k < 2) l) (sym harts) below) know;
-        first = subst (λ (l : List ℕ). Contains l 0) (sym harts) there;
-        second = subst (λ (l : List ℕ). Contains l 1) (sym harts) there';
+        each = each_box log xs ys heard heard' boxes (subst (λ (l : List ℕ). All (λ k. k < 2) l) (sym knows.harts) below) knows.heard;
+        first = subst (λ (l : List ℕ). Contains l 0) (sym knows.harts) there;
+        second = subst (λ (l : List ℕ). Contains l 1) (sym knows.harts) there';
       }

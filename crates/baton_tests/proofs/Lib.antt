@@ -2,3 +2,5 @@ pub mod FreePasses
 pub mod ShelfLemmas
 pub mod TurnLemmas
 pub mod BothLemmas
+pub mod TapeLemmas
+pub mod ParcelLemmas

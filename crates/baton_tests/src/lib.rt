@@ -1,8 +1,9 @@
-//! Two values that a gate keeps, and threads that take turns with them.
+//! Three values that a gate keeps, and threads that take turns with them.
 #![tactic(auto)]
 
 pub mod bounds;
 pub mod entries;
+pub mod parcel;
 pub mod passes;
 pub mod shelf;
 pub mod tape;

@@ -1,7 +1,8 @@
 //! A shelf of boxes, which says for each of them what it has heard.
-ghost use Rattle.std.specs.Prelude.{◌≡◌, ℕ, List, [], ◌∷◌, ◌++◌, map, All, OnOk, OnErr};
+ghost use Rattle.std.specs.Prelude.{◌≡◌, [], ◌∷◌, ◌++◌, OnOk, OnErr};
 ghost use Rattle.baton_tests.specs.declared.entries.Entry.TheVariants.{Step, Parked as Put};
-ghost use Rattle.baton_tests.specs.Shelf.{heard_by, parked_in, HasBox, IsTold};
+ghost use Rattle.baton_tests.specs.Shelf.{heard_by, HasBox};
+ghost use Rattle.baton_tests.specs.Boxes.{KnowsBoxes};
 
 use crate::bounds::{Listener, Teller};
 use crate::entries::Entry;
@@ -21,20 +22,22 @@ pub struct Parked<W> {
 #[derive(Drop)]
 pub struct Shelf<C: Teller, W: Listener> {
     number: u32,
-    log: Vec<Entry>,
+    // Oldest first.
+    entries: Vec<Entry>,
     boxes: Vec<Parked<W>>,
     teller: C,
 }
 
 impl<C: Teller, W: Listener> Model for Shelf<C, W> {
-    ghost use Rattle.std.specs.Prelude.{◌≡◌, map, All};
-    ghost use Rattle.baton_tests.specs.Shelf.{Contents, heard_by, parked_in};
+    ghost use Rattle.std.specs.Prelude.{reverse};
+    ghost use Rattle.baton_tests.specs.Shelf.{Contents};
+    ghost use Rattle.baton_tests.specs.Boxes.{KnowsBoxes};
 
     ghost Value = { Contents };
 
-    ghost view = { λ s. record { number = s.number; log = s.log.items; told = C.told s.teller } };
+    ghost view = { λ s. record { number = s.number; log = reverse s.entries.items; told = C.told s.teller } };
 
-    ghost invariant = { λ s. (map (λ b. b.hart) s.boxes.items ≡ parked_in s.log.items) × All (λ b. W.stands b.listener (heard_by b.hart s.log.items)) s.boxes.items };
+    ghost invariant = { λ s. KnowsBoxes W.stands s.boxes.items (reverse s.entries.items) };
 }
 
 impl<C: Teller, W: Listener> Kept for Shelf<C, W> {
@@ -59,7 +62,7 @@ impl<C: Teller, W: Listener> Shelf<C, W> {
     {
         Shelf {
             number,
-            log: Vec::new(alloc),
+            entries: Vec::new(alloc),
             boxes: Vec::new(alloc),
             teller,
         }
@@ -68,10 +71,10 @@ impl<C: Teller, W: Listener> Shelf<C, W> {
     /// Notes a number that the hart came to.
     pub fn note(&mut self, hart: u8, number: u32) -> Result<(), NoMemory>
         requires { HasBox hart self.old.log }
-        ensures ok { OnOk result (self.new ≡ record self.old { log = self.old.log ++ Step hart number ∷ [] }) }
+        ensures ok { OnOk result (self.new ≡ record self.old { log = Step hart number ∷ self.old.log }) }
         ensures err { OnErr result (self.new ≡ self.old) }
     {
-        self.log.push(Entry::Step { hart, number })?;
+        self.entries.push(Entry::Step { hart, number })?;
         Ok(())
     }
 
@@ -79,20 +82,19 @@ impl<C: Teller, W: Listener> Shelf<C, W> {
     pub fn park(&mut self, hart: u8, listener: W) -> Result<(), NoMemory>
         requires own { HasBox hart self.old.log }
         requires heard { W.stands listener (heard_by hart self.old.log) }
-        ensures ok { OnOk result (self.new ≡ record self.old { log = self.old.log ++ Put hart ∷ []; told = self.old.told ++ hart ∷ [] }) }
+        ensures ok { OnOk result (self.new ≡ record self.old { log = Put hart ∷ self.old.log; told = self.old.told ++ hart ∷ [] }) }
         ensures err { OnErr result (self.new ≡ self.old) }
     {
         self.boxes.reserve(1)?;
-        self.log.reserve(1)?;
+        self.entries.reserve(1)?;
         self.teller.tell(hart)?;
-        self.log.push_reserved(Entry::Parked { hart });
+        self.entries.push_reserved(Entry::Parked { hart });
         self.boxes.push_reserved(Parked { hart, listener });
         Ok(())
     }
 
     pub fn into_boxes(self) -> Vec<Parked<W>>
-        ensures harts { map (λ b. b.hart) result.items ≡ parked_in self.log }
-        ensures heard { All (λ b. W.stands b.listener (heard_by b.hart self.log)) result.items }
+        ensures { KnowsBoxes W.stands result.items self.log }
     {
         let Shelf { boxes, .. } = self;
         boxes

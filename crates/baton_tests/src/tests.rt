@@ -1,10 +1,11 @@
 ghost use Rattle.std.specs.Prelude.{◌≡◌, ◌%◌, ◌^◌, length};
 
 use crate::bounds::{Listener, Teller};
-use crate::tape::{Tape, mark_by_all};
+use crate::parcel::{Parcel, add_by_two};
+use crate::tape::{Tape, keep_and_wait, mark_by_all};
 use crate::turns::take_turns;
 use baton_gate::Gate;
-use flat_model::NoMemory;
+use flat_model::{Image, NoMemory, Order};
 use std::test::*;
 
 // How many numbers of the party there are, where they are those from 0 in order.
@@ -35,6 +36,17 @@ fn four_parties_of_250_holds(rt: HostRuntime) -> Result<(), Fail> {
         }
         gate.give(&rt, &mut pass, tape);
     }
+    Ok(())
+}
+
+#[test]
+fn a_thread_that_waits_is_seen(rt: HostRuntime) -> Result<(), Fail> {
+    let tape = Tape::new(rt.alloc(), 0)?;
+    let (gate, passes) = Gate::new(&rt, rt.alloc(), tape, 2)?;
+    assert!(rt; !gate.is_wanted());
+    let passes = keep_and_wait(&rt, &gate, passes)?;
+    assert_eq!(rt; passes.len(), 2);
+    assert!(rt; !gate.is_wanted());
     Ok(())
 }
 
@@ -79,5 +91,24 @@ fn two_harts_leave_their_boxes(rt: HostRuntime) -> Result<(), Fail> {
         let calls = if parked.hart == 0 { 3 } else { 2 };
         assert_eq!(rt; parked.listener.calls, calls);
     }
+    Ok(())
+}
+
+#[test]
+fn what_harts_share_goes_through_two_threads(rt: HostRuntime) -> Result<(), Fail> {
+    let alloc = rt.alloc();
+    let image = Image {
+        regions: Vec::new(alloc),
+        entry: 0x10000,
+    };
+    let parcel = Box::new(alloc, Parcel::new(alloc, image)?)?;
+    let parcel = add_by_two(&rt, alloc, parcel, 100)?;
+    assert_eq!(rt; parcel.number, 7);
+    assert_eq!(rt; parcel.holds, 200);
+    assert_eq!(rt; (parcel.hart.pc, parcel.hart.steps), (0x10000, 0));
+    assert_eq!(rt; parcel.services.starts.len(), 2);
+    assert_eq!(rt; parcel.image.entry, 0x10000);
+    assert_eq!(rt; parcel.order, Order::Reset { plugin: 1 });
+    assert_eq!(rt; parcel.spec.entries, 3);
     Ok(())
 }

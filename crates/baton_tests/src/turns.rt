@@ -14,11 +14,14 @@ use std::alloc::Global;
 use std::sync::Wait;
 use std::thread::{Threads, join};
 
+/// What the harts pass to each other is the box, and not the shelf itself.
+pub type BoxedShelf<C, W> = Box<Shelf<C, W>>;
+
 // One hold, in which the hart comes to a number.
 fn step<C: Teller, W: Listener, R: Wait>(
     rt: &R,
-    gate: &Gate<Shelf<C, W>>,
-    pass: &mut Pass<Shelf<C, W>>,
+    gate: &Gate<BoxedShelf<C, W>>,
+    pass: &mut Pass<BoxedShelf<C, W>>,
     number: u32,
 ) -> Result<(), NoMemory>
     requires { IsAtWork gate.now pass.old pass.old.party }
@@ -34,8 +37,8 @@ fn step<C: Teller, W: Listener, R: Wait>(
 // The last hold, in which the hart puts its box on the shelf.
 fn put_away<C: Teller, W: Listener, R: Wait>(
     rt: &R,
-    gate: &Gate<Shelf<C, W>>,
-    pass: &mut Pass<Shelf<C, W>>,
+    gate: &Gate<BoxedShelf<C, W>>,
+    pass: &mut Pass<BoxedShelf<C, W>>,
     listener: W,
 ) -> Result<(), NoMemory>
     requires work { IsAtWork gate.now pass.old pass.old.party }
@@ -51,8 +54,8 @@ fn put_away<C: Teller, W: Listener, R: Wait>(
 // Comes to each number in a hold of its own, after which the hart's box hears it.
 fn come_to_all<C: Teller, W: Listener, R: Wait>(
     rt: &R,
-    gate: &Gate<Shelf<C, W>>,
-    pass: &mut Pass<Shelf<C, W>>,
+    gate: &Gate<BoxedShelf<C, W>>,
+    pass: &mut Pass<BoxedShelf<C, W>>,
     listener: &mut W,
     numbers: &[u32],
 ) -> Result<(), NoMemory>
@@ -73,11 +76,11 @@ fn come_to_all<C: Teller, W: Listener, R: Wait>(
 // All holds of one hart.
 fn play<C: Teller, W: Listener, R: Wait>(
     rt: &R,
-    gate: &Gate<Shelf<C, W>>,
-    mut pass: Pass<Shelf<C, W>>,
+    gate: &Gate<BoxedShelf<C, W>>,
+    mut pass: Pass<BoxedShelf<C, W>>,
     mut listener: W,
     numbers: &[u32],
-) -> Result<Pass<Shelf<C, W>>, NoMemory>
+) -> Result<Pass<BoxedShelf<C, W>>, NoMemory>
     requires work { IsAtWork gate.now pass pass.party }
     requires none { heard_by pass.party (seen pass) ≡ [] }
     requires blank { W.stands listener [] }
@@ -103,19 +106,19 @@ pub fn take_turns<C: Teller + Send, W: Listener + Send, R: Threads + Wait + Sync
 {
     let (one, two) = listeners;
     let (ones, twos) = numbers;
-    let shelf = Shelf::new(alloc, 7, teller);
+    let shelf = Box::new(alloc, Shelf::new(alloc, 7, teller))?;
     let (gate, passes) = Gate::new(rt, alloc, shelf, 2)?;
     let (first, second) = both_of(passes);
     let shared = &gate;
     let (first, second) = join(
         rt,
-        move || -> Result<Pass<Shelf<C, W>>, NoMemory>
+        move || -> Result<Pass<BoxedShelf<C, W>>, NoMemory>
             requires work { IsAtWork shared.now first first.party }
             requires none { heard_by first.party (seen first) ≡ [] }
             requires blank { W.stands one [] }
             ensures { IfOk result (λ p. IsDone shared.entry.now p first.party ones.entry.now) }
         { play(rt, shared, first, one, ones) },
-        move || -> Result<Pass<Shelf<C, W>>, NoMemory>
+        move || -> Result<Pass<BoxedShelf<C, W>>, NoMemory>
             requires work { IsAtWork shared.now second second.party }
             requires none { heard_by second.party (seen second) ≡ [] }
             requires blank { W.stands two [] }
@@ -125,5 +128,5 @@ pub fn take_turns<C: Teller + Send, W: Listener + Send, R: Threads + Wait + Sync
     let mut first = first?;
     gate.join(&mut first, second?);
     let shelf = gate.take(rt, &mut first);
-    Ok(shelf.into_boxes())
+    Ok(Box::into_inner(shelf).into_boxes())
 }

@@ -9,9 +9,9 @@ loop-number-preserved g c =
     let made = c.another-next.ensures in
     record {
       first_of = made.gate.0;
-      first_is = made.first.0 ∙ ap one_more before.first_is;
-      first_number = made.first.1 ∙ before.first_number;
-      first_takes = made.first.2 ∙ before.first_takes;
+      first_is = made.first ∙ ap one_more before.first_is;
+      first_number = made.same.0 ∙ before.first_number;
+      first_takes = made.same.1 ∙ before.first_takes;
       count = omega (arith, c.in_ok-push.ensures.len);
       next = next_more _ c.loop-number.passes.items c.push.new.self.items c.another-next.result c.loop-number.number c.args.parties (g.S.Kept.log c.args.state) (g.S.Kept.frame c.args.state)
           before.next c.in_ok-push.ensures.items (omega arith) (made_new _ c.loop-number.first _ _ _ _ _ made.gate.1 made.next.0 before.first_is made.next.1 made.next.2);
