@@ -1,17 +1,35 @@
 -- How the parts of a call make its answer.
-use Rattle.std.proofs.Common.{◌≡◌, ◌⊎◌, ℕ, List, None, inl, inr, sym, subst}
+use Rattle.std.proofs.Common.{◌≡◌, ◌⊎◌, ℕ, Bool, true, false, List, Option, None, IsSome, inl, inr, sym, subst}
 use Rattle.flat_model.specs.Image.{Program}
 use Rattle.flat_model.specs.World.{HartState}
+use Rattle.outer_io.specs.Counts.{Faulted, IsFaultless}
 use Rattle.host_cli.specs.declared.refusals.Refusal.{Refusal}
 use Rattle.host_cli.specs.declared.refusals.Refusal.TheVariants.{Usage, CannotRead, TooLong, Image, OutOfMemory}
-use Rattle.host_cli.specs.Words.{file_of}
-use Rattle.host_cli.specs.Refusals.{Given, HasCause, FileCause}
-use Rattle.host_cli.specs.Answers.{Around, IsSilent, Answers, refused, PutRefusal}
+use Rattle.host_cli.specs.Sinks.{Around, IsSilent}
+use Rattle.host_cli.specs.Words.{verb_of, file_of}
+use Rattle.host_cli.specs.Refusals.{Given, HasCause, FileCause, CannotBeRead, IsTooLong}
+use Rattle.host_cli.specs.Answers.{Answers, refused, PutRefusal}
+
+-- a read meets at most one fault
+counted_missing : (told : Bool) (held : Option (List ℕ)) (before now : ℕ) → CannotBeRead told held before now → IsFaultless before now ⊎ Faulted before now
+counted_missing told held before now (inl fault) = inr fault
+counted_missing told held before now (inr missing) = inl missing.2
+
+counted_long : (told : Bool) (held : Option (List ℕ)) (before now : ℕ) → IsTooLong told held before now → IsFaultless before now ⊎ Faulted before now
+counted_long true held before now long = inl long.1
+counted_long false held before now fault = inr fault
+
+counted : (given : Given) (refusal : Refusal) → HasCause refusal given → IsFaultless given.faults_before given.faults_now ⊎ Faulted given.faults_before given.faults_now
+counted given Usage cause = inl cause.1
+counted given CannotRead cause = counted_missing given.told given.held given.faults_before given.faults_now cause.1
+counted given TooLong cause = counted_long given.told given.held given.faults_before given.faults_now cause.1
+counted given (Image r) cause = inl cause.1.1
+counted given OutOfMemory cause = cause
 
 -- the refusal that was put has a cause where the one that was met has
 put_cause : (given : Given) (put refusal : Refusal) → (put ≡ refusal) ⊎ (put ≡ OutOfMemory) → HasCause refusal given → HasCause put given
 put_cause given put refusal (inl same) cause = subst (λ r. HasCause r given) (sym same) cause
-put_cause given put refusal (inr starved_now) cause = subst (λ r. HasCause r given) (sym starved_now) tt
+put_cause given put refusal (inr starved_now) cause = subst (λ r. HasCause r given) (sym starved_now) (counted given refusal cause)
 
 -- a refusal that was met and put
 pub refusing : (given : Given) (out report : Around) (heard : Program → HartState → Type 0) (name : List ℕ) (refusal : Refusal) (status : ℕ)
@@ -23,10 +41,11 @@ pub refusing : (given : Given) (out report : Around) (heard : Program → HartSt
 refusing given out report heard name refusal status name_is cause silent put =
     rw put.2 (refused put.0 (put_cause given put.0 refusal put.1 cause) silent (rw name_is at put.3))
 
--- the file's cause is the call's
-pub file_cause : (given : Given) (refusal : Refusal) → FileCause refusal given.told given.held given.faults_before given.faults_now → HasCause refusal given
-file_cause given Usage cause = absurd cause
-file_cause given CannotRead cause = cause
-file_cause given TooLong cause = cause
-file_cause given (Image r) cause = cause
-file_cause given OutOfMemory cause = cause
+-- the file's cause is the call's, where the words are in the grammar
+pub file_cause : (given : Given) (refusal : Refusal) → IsSome (verb_of given.words)
+    → FileCause refusal given.told given.held given.faults_before given.faults_now → HasCause refusal given
+file_cause given Usage asked cause = absurd cause
+file_cause given CannotRead asked cause = (asked, cause)
+file_cause given TooLong asked cause = (asked, cause)
+file_cause given (Image r) asked cause = (asked, cause)
+file_cause given OutOfMemory asked cause = inl cause

@@ -1,8 +1,7 @@
 pub mod Words
+pub mod Sinks
 pub mod Runs
+pub mod Running
 pub mod Refusals
-pub mod Listings
-pub mod BlockLists
-pub mod Listed
 pub mod Answers
 pub mod Boxes

@@ -4,7 +4,7 @@ use Rattle.std.specs.Str.{bytes_eq}
 use Rattle.std.specs.List.{slice_index_or}
 use Rattle.host_cli.specs.declared.words.Verb.{Verb}
 use Rattle.host_cli.specs.declared.words.Verb.TheVariants.{Run, Lists}
-use Rattle.host_cli.specs.declared.listings.ListingOf.TheVariants.{Instructions, Blocks}
+use Rattle.code_listing.specs.declared.listings.ListingOf.TheVariants.{Instructions, Blocks}
 
 -- a plain word isn't empty, and doesn't begin as an option does, with `-`
 abbrev pub is_plain : List ℕ → Bool

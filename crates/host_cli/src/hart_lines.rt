@@ -1,35 +1,26 @@
 //! The report's line of a hart.
 
 ghost use Rattle.std.specs.Prelude.{◌≡◌, ◌++◌, None, Some, IfOk, OnOk};
-ghost use Rattle.std.specs.Fmt.{decimal, signed_decimal};
-ghost use Rattle.flat_model.specs.Texts.{fault_name, group_text, ending_text, hart_line};
+ghost use Rattle.std.specs.Fmt.{decimal};
+ghost use Rattle.flat_model.specs.Texts.{fault_name, group_text, ending_text, fate_text, hart_line};
 
-use crate::texts::{put, put_decimal};
 use flat_model::{Ending, FaultKind, NoMemory};
+use number_text::{put_decimal, put_hex, put_signed, put_text};
 use rv_exec::Hart;
-use rv_text::hex;
 use std::alloc::Global;
 
-/// Puts a signed number in decimal.
-fn put_signed(alloc: Global, out: &mut Vec<u8>, n: i32) -> Result<(), NoMemory>
-    ensures text { OnOk result (out.new.items ≡ out.old.items ++ signed_decimal n) }
-{
-    let text = n.to_string(alloc)?;
-    put(out, text.as_bytes())
-}
-
 /// What the report calls a fault.
-fn fault_name(kind: FaultKind) -> &'static [u8]
+fn fault_name(kind: FaultKind) -> &'static str
     ensures name { result.now ≡ fault_name kind }
 {
     match kind {
-        FaultKind::Fetch => b"fetch",
-        FaultKind::Illegal => b"illegal",
-        FaultKind::MisalignedJump => b"jump",
-        FaultKind::MisalignedAtomic => b"atomic",
-        FaultKind::Load => b"load",
-        FaultKind::Store => b"store",
-        FaultKind::Break => b"break",
+        FaultKind::Fetch => "fetch",
+        FaultKind::Illegal => "illegal",
+        FaultKind::MisalignedJump => "jump",
+        FaultKind::MisalignedAtomic => "atomic",
+        FaultKind::Load => "load",
+        FaultKind::Store => "store",
+        FaultKind::Break => "break",
     }
 }
 
@@ -37,45 +28,51 @@ fn fault_name(kind: FaultKind) -> &'static [u8]
 fn put_fault(out: &mut Vec<u8>, kind: FaultKind, pc: u64) -> Result<(), NoMemory>
     ensures text { OnOk result (out.new.items ≡ out.old.items ++ ending_text None (Some (Ending.Fault kind pc))) }
 {
-    put(out, b"fault ")?;
-    put(out, fault_name(kind))?;
-    put(out, b" at 0x")?;
-    hex(pc, 16, out)
+    put_text(out, "fault ")?;
+    put_text(out, fault_name(kind))?;
+    put_text(out, " at 0x")?;
+    put_hex(out, pc, 16)
 }
 
 /// Puts how the group ended.
-fn put_group(alloc: Global, out: &mut Vec<u8>, group: Option<i32>) -> Result<(), NoMemory>
+fn put_group(out: &mut Vec<u8>, group: Option<i32>) -> Result<(), NoMemory>
     ensures text { OnOk result (out.new.items ≡ out.old.items ++ group_text group) }
 {
     match group {
-        None => put(out, b"group"),
+        None => put_text(out, "group"),
         Some(code) => {
-            put(out, b"group ")?;
-            put_signed(alloc, out, code)
+            put_text(out, "group ")?;
+            put_signed(out, i64::from(code))
         }
     }
 }
 
 /// Puts how a hart ended.
-fn put_ending(
-    alloc: Global,
-    out: &mut Vec<u8>,
-    group: Option<i32>,
-    ending: Option<Ending>,
-) -> Result<(), NoMemory>
+fn put_ending(out: &mut Vec<u8>, group: Option<i32>, ending: Option<Ending>) -> Result<(), NoMemory>
     ensures text { OnOk result (out.new.items ≡ out.old.items ++ ending_text group ending) }
 {
     let Some(ending) = ending else {
-        return put(out, b"stopped");
+        return put_text(out, "stopped");
     };
     match ending {
         Ending::Exited(code) => {
-            put(out, b"exit ")?;
-            put_signed(alloc, out, code)
+            put_text(out, "exit ")?;
+            put_signed(out, i64::from(code))
         }
-        Ending::Group => put_group(alloc, out, group),
+        Ending::Group => put_group(out, group),
         Ending::Fault { kind, pc } => put_fault(out, kind, pc),
-        Ending::Limit => put(out, b"limit"),
+        Ending::Limit => put_text(out, "limit"),
+    }
+}
+
+/// Puts what became of a hart.
+fn put_fate(out: &mut Vec<u8>, group: Option<i32>, hart: &Hart) -> Result<(), NoMemory>
+    ensures text { OnOk result (out.new.items ≡ out.old.items ++ fate_text group hart.now) }
+{
+    if hart.parked {
+        put_text(out, "unstarted")
+    } else {
+        put_ending(out, group, hart.ending)
     }
 }
 
@@ -90,14 +87,14 @@ pub(crate) fn hart_line(
     ensures line { IfOk result (λ line. line.items ≡ hart_line no group hart.now) }
 {
     let mut out = Vec::new(alloc);
-    put(&mut out, b"hart ")?;
-    put_decimal(alloc, &mut out, u128::from(no))?;
-    put(&mut out, b" steps ")?;
-    put_decimal(alloc, &mut out, u128::from(hart.steps))?;
-    put(&mut out, b" blocks ")?;
-    put_decimal(alloc, &mut out, u128::from(hart.blocks))?;
-    put(&mut out, b" ")?;
-    put_ending(alloc, &mut out, group, hart.ending)?;
-    put(&mut out, b"\n")?;
+    put_text(&mut out, "hart ")?;
+    put_decimal(&mut out, u64::from(no))?;
+    put_text(&mut out, " steps ")?;
+    put_decimal(&mut out, hart.steps)?;
+    put_text(&mut out, " blocks ")?;
+    put_decimal(&mut out, hart.blocks)?;
+    put_text(&mut out, " ")?;
+    put_fate(&mut out, group, hart)?;
+    put_text(&mut out, "\n")?;
     Ok(out)
 }

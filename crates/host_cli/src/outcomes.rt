@@ -1,30 +1,28 @@
 //! The top call of one hart.
 
-ghost use Rattle.std.specs.Prelude.{◌≡◌, ◌⊎◌, ℕ, [], ◌∷◌, map, string_bytes, MatchResult, None, Some, All, vec_len, ◌<◌, ◌≢◌};
-ghost use Rattle.host_cli.specs.Boxes.{FirstHeard, events_of};
-ghost use Rattle.outer_io.specs.Counts.{Rose, IsCount};
-ghost use Rattle.host_cli.specs.Words.{verb_of, file_of};
-ghost use Rattle.host_cli.specs.Runs.{IsImageOf, HasRun, output_of, group_of};
-ghost use Rattle.host_cli.specs.Refusals.{HasCause, FileCause, BytesCause, refusal_line, refusal_status};
-ghost use Rattle.host_cli.specs.Answers.{WasTold, Says, StopsAt, Answers, RunAnswers, ListAnswers, line_of, PutRefusal, Reports};
-ghost use Rattle.elf_image.specs.Loads.{Loads};
+ghost use Rattle.std.specs.Prelude.{◌≡◌, ◌⊎◌, ℕ, [], ◌∷◌, map, string_bytes, MatchResult, None, Some, All, vec_len, ◌≢◌};
+ghost use Rattle.outer_io.specs.Counts.{IsFaultless};
 ghost use Rattle.flat_model.specs.Texts.{status_of, is_failed_group};
+ghost use Rattle.elf_image.specs.Loads.{Loads, Refuses};
+ghost use Rattle.host_cli.specs.Boxes.{HaveHeard, events_of};
+ghost use Rattle.host_cli.specs.Words.{verb_of, file_of};
+ghost use Rattle.host_cli.specs.Sinks.{around, WasTold, IsSilent};
+ghost use Rattle.host_cli.specs.Runs.{IsImageOf};
+ghost use Rattle.host_cli.specs.Refusals.{Given, HasCause, FileCause, BytesCause, IsAsked, refusal_line, refusal_status};
+ghost use Rattle.host_cli.specs.Answers.{Answers, RunAnswers, ListAnswers, PutRefusal, Reports};
 
 use crate::hart_lines::hart_line;
-use crate::listings::{ListingOf, listing};
-use crate::pieces::put_pieces;
-use crate::refusals::{Refusal, refusal_line};
-use crate::single_hart::{Ran, run_watched};
+use crate::refusals::{OUT_OF_MEMORY, Refusal, refusal_line};
+use crate::single_hart::{Ran, run_heard};
 use crate::words::{Verb, asked_verb, file_name};
+use code_listing::{ListingOf, listing};
 use elf_image::load;
+use flat_model::limits::{FILE_MOST, PIECE_BYTES};
 use flat_model::{Ending, Image, Refused};
-use outer_io::{FileFault, Files, Sink};
+use outer_io::{FileFault, Files, Sink, put_pieces};
 use rv_exec::Hart;
 use std::alloc::Global;
 use watcher_api::Watcher;
-
-/// The bytes of a file at most.
-const FILE_LIMIT: usize = 67_108_864;
 
 /// What `host_one` answers: the status of the process, the hart where a run was made, and the boxes.
 #[derive(Drop)]
@@ -36,7 +34,7 @@ pub struct OneEnded<W: Drop> {
 
 /// Puts the line of a refusal, and answers its status. Where the line finds no memory, it is that of want of memory.
 fn refuse<E: Sink>(alloc: Global, report: &mut E, name: &str, refusal: &Refusal) -> u8
-    ensures refused { PutRefusal name.now refusal.now result (record { before = E.contents report.old; now = E.contents report.new; faults_before = E.faults report.old; faults_now = E.faults report.new }) }
+    ensures refused { PutRefusal name.now refusal.now result (around E.pieces E.faults report.old report.new) }
 {
     match refusal_line(alloc, name, refusal) {
         Ok(line) => {
@@ -49,30 +47,11 @@ fn refuse<E: Sink>(alloc: Global, report: &mut E, name: &str, refusal: &Refusal)
 
 /// Puts the line of want of memory, which takes none, and answers its status.
 fn refuse_for_memory<E: Sink>(report: &mut E) -> u8
-    ensures told { WasTold (record { before = E.contents report.old; now = E.contents report.new; faults_before = E.faults report.old; faults_now = E.faults report.new }) (refusal_line [] Refusal.OutOfMemory) }
+    ensures told { WasTold (around E.pieces E.faults report.old report.new) (refusal_line [] Refusal.OutOfMemory) }
     ensures status { result ≡ 7 }
 {
-    let _ = report.put(Refusal::OutOfMemory.bare_line());
+    let _ = report.put(OUT_OF_MEMORY);
     Refusal::OutOfMemory.status()
-}
-
-/// Reads the file of this name and loads it.
-fn named_image<F: Files>(alloc: Global, files: &mut F, name: &str) -> Result<Image, Refusal>
-    ensures cases { MatchResult result
-        (λ image. IsImageOf (F.told files.old) (F.contents files.old name.now) image)
-        (λ refusal. FileCause refusal (F.told files.old) (F.contents files.old name.now) (F.read_faults files.old) (F.read_faults files.new)) }
-    ensures count { IsCount (F.read_faults files.old) (F.read_faults files.new) }
-    ensures writes { F.write_faults files.new ≡ F.write_faults files.old }
-    ensures still_told { F.told files.new ≡ F.told files.old }
-    ensures unchanged { F.contents files.new ≡ F.contents files.old }
-{
-    let mut bytes = Vec::new(alloc);
-    match files.read(name, FILE_LIMIT, &mut bytes) {
-        Ok(()) => image_of_bytes(alloc, bytes.as_slice()),
-        Err(FileFault::Failed | FileFault::Missing) => Err(Refusal::CannotRead),
-        Err(FileFault::TooLong) => Err(Refusal::TooLong),
-        Err(FileFault::NoMemory) => Err(Refusal::OutOfMemory),
-    }
 }
 
 /// Loads the bytes of a file.
@@ -83,6 +62,57 @@ fn image_of_bytes(alloc: Global, bytes: &[u8]) -> Result<Image, Refusal>
         Ok(image) => Ok(image),
         Err(Refused::Because(refusal)) => Err(Refusal::Image(refusal)),
         Err(Refused::NoMemory) => Err(Refusal::OutOfMemory),
+    }
+}
+
+/// Reads the file of this name and loads it.
+fn named_image<F: Files>(alloc: Global, files: &mut F, name: &str) -> Result<Image, Refusal>
+    ensures cases { MatchResult result
+        (λ image. IsImageOf (F.told files.old) (F.contents files.old name.now) image
+        × IsFaultless (F.read_faults files.old) (F.read_faults files.new))
+        (λ refusal. FileCause refusal (F.told files.old) (F.contents files.old name.now)
+        (F.read_faults files.old) (F.read_faults files.new)) }
+    ensures writes { F.write_faults files.new ≡ F.write_faults files.old }
+    ensures still_told { F.told files.new ≡ F.told files.old }
+    ensures unchanged { F.contents files.new ≡ F.contents files.old }
+{
+    let mut bytes = Vec::new(alloc);
+    match files.read(name, FILE_MOST as usize, &mut bytes) {
+        Ok(()) => image_of_bytes(alloc, bytes.as_slice()),
+        Err(FileFault::Failed | FileFault::Missing) => Err(Refusal::CannotRead),
+        Err(FileFault::TooLong) => Err(Refusal::TooLong),
+        Err(FileFault::NoMemory) => Err(Refusal::OutOfMemory),
+    }
+}
+
+/// What the words ask for, and the image of the file that they name. The words are judged before the file is read.
+fn asked_image<F: Files>(
+    alloc: Global,
+    words: &[String],
+    files: &mut F,
+    name: &str,
+) -> Result<(Verb, Image), Refusal>
+    ensures cases { MatchResult result
+        (λ asked. IsAsked (map string_bytes words.now) asked.0
+        × IsImageOf (F.told files.old) (F.contents files.old name.now) asked.1
+        × IsFaultless (F.read_faults files.old) (F.read_faults files.new))
+        (λ refusal. HasCause refusal (record {
+          words = map string_bytes words.now;
+          told = F.told files.old;
+          held = F.contents files.old name.now;
+          faults_before = F.read_faults files.old;
+          faults_now = F.read_faults files.new;
+        })) }
+    ensures writes { F.write_faults files.new ≡ F.write_faults files.old }
+    ensures still_told { F.told files.new ≡ F.told files.old }
+    ensures unchanged { F.contents files.new ≡ F.contents files.old }
+{
+    let Some(verb) = asked_verb(words) else {
+        return Err(Refusal::Usage);
+    };
+    match named_image(alloc, files, name) {
+        Ok(image) => Ok((verb, image)),
+        Err(refusal) => Err(refusal),
     }
 }
 
@@ -110,16 +140,15 @@ fn failed(group: Option<i32>) -> bool
 
 /// Puts the output of a hart that has run and then its line, and answers the status.
 fn report_run<O: Sink, E: Sink>(alloc: Global, out: &mut O, report: &mut E, run: &Ran) -> u8
-    ensures reported { Reports run.now.hart run.now.services.output.items run.now.services.group
-        (record { before = O.contents out.old; now = O.contents out.new; faults_before = O.faults out.old; faults_now = O.faults out.new })
-        (record { before = E.contents report.old; now = E.contents report.new; faults_before = E.faults report.old; faults_now = E.faults report.new })
-        result }
+    ensures reported { Reports run.now.hart run.now.services.output run.now.services.group
+        (around O.pieces O.faults out.old out.new) (around E.pieces E.faults report.old report.new) result }
 {
-    let group = run.services.group;
+    let services = &run.services;
+    let group = services.group;
     let Ok(line) = hart_line(alloc, 0, group, &run.hart) else {
         return refuse_for_memory(report);
     };
-    match put_pieces(out, run.services.output.as_slice()) {
+    match put_pieces(out, PIECE_BYTES, services.output.as_slice()) {
         Ok(()) => match report.put(line.as_slice()) {
             Ok(()) => hart_status(&run.hart, group),
             Err(_) => 6,
@@ -136,18 +165,16 @@ fn run_image<W: Watcher, O: Sink, E: Sink>(
     image: &Image,
     watchers: Vec<W>,
 ) -> OneEnded<W>
-    requires some { 0 < vec_len watchers }
     requires blank { All (λ w. W.kind_of w ≡ None) watchers.items }
     ensures answers { RunAnswers image.now
-        (record { before = O.contents out.old; now = O.contents out.new; faults_before = O.faults out.old; faults_now = O.faults out.new })
-        (record { before = E.contents report.old; now = E.contents report.new; faults_before = E.faults report.old; faults_now = E.faults report.new })
-        (λ hart. FirstHeard W.kind_of W.stands watchers.items result.watchers.items (events_of image.now hart))
+        (around O.pieces O.faults out.old out.new) (around E.pieces E.faults report.old report.new)
+        (λ hart. HaveHeard W.kind_of W.stands watchers.items result.watchers.items (events_of image.now hart))
         result.status result.hart }
     ensures all_back { vec_len result.watchers ≡ vec_len watchers }
     ensures untouched { result.status ≢ 7 → result.hart ≡ None → result.watchers.items ≡ watchers.items }
 {
     let mut watchers = watchers;
-    let Ok(ran) = run_watched(alloc, image, &mut watchers) else {
+    let Ok(ran) = run_heard(alloc, image, &mut watchers) else {
         return OneEnded {
             status: refuse_for_memory(report),
             hart: None,
@@ -171,14 +198,12 @@ fn list_image<O: Sink, E: Sink>(
     what: ListingOf,
 ) -> u8
     ensures answers { ListAnswers what image.now
-        (record { before = O.contents out.old; now = O.contents out.new; faults_before = O.faults out.old; faults_now = O.faults out.new })
-        (record { before = E.contents report.old; now = E.contents report.new; faults_before = E.faults report.old; faults_now = E.faults report.new })
-        result }
+        (around O.pieces O.faults out.old out.new) (around E.pieces E.faults report.old report.new) result }
 {
     let Ok(text) = listing(alloc, image, what) else {
         return refuse_for_memory(report);
     };
-    match put_pieces(out, text.as_slice()) {
+    match put_pieces(out, PIECE_BYTES, text.as_slice()) {
         Ok(()) => 0,
         Err(_) => 6,
     }
@@ -186,8 +211,9 @@ fn list_image<O: Sink, E: Sink>(
 
 /// Runs the file that the words name on one hart, or lists its instructions or its blocks.
 ///
-/// `out` takes the guest's output, or what is listed; `report` takes the line of a hart that has run, or that of a refusal. The first
-/// box hears every event of the run, as one of the kind Exec without a quota; all boxes are handed back.
+/// `out` takes the guest's output, or what is listed; `report` takes the line of a hart that has run, or that of a refusal.
+/// Where boxes are handed in, the first hears every event of the run, as one of the kind Exec without a quota; where none
+/// are, nothing listens. All boxes are handed back.
 pub fn host_one<W: Watcher, F: Files, O: Sink, E: Sink>(
     alloc: Global,
     words: &[String],
@@ -196,15 +222,19 @@ pub fn host_one<W: Watcher, F: Files, O: Sink, E: Sink>(
     report: &mut E,
     watchers: Vec<W>,
 ) -> OneEnded<W>
-    requires some { 0 < vec_len watchers }
     requires blank { All (λ w. W.kind_of w ≡ None) watchers.items }
 
     // The call ends in one of the stated ways.
     ensures answers { Answers
-        (record { words = map string_bytes words.now; told = F.told files.old; held = F.contents files.old (file_of (map string_bytes words.now)); faults_before = F.read_faults files.old; faults_now = F.read_faults files.new })
-        (record { before = O.contents out.old; now = O.contents out.new; faults_before = O.faults out.old; faults_now = O.faults out.new })
-        (record { before = E.contents report.old; now = E.contents report.new; faults_before = E.faults report.old; faults_now = E.faults report.new })
-        (λ image hart. FirstHeard W.kind_of W.stands watchers.items result.watchers.items (events_of image hart))
+        (record {
+          words = map string_bytes words.now;
+          told = F.told files.old;
+          held = F.contents files.old (file_of (map string_bytes words.now));
+          faults_before = F.read_faults files.old;
+          faults_now = F.read_faults files.new;
+        })
+        (around O.pieces O.faults out.old out.new) (around E.pieces E.faults report.old report.new)
+        (λ image hart. HaveHeard W.kind_of W.stands watchers.items result.watchers.items (events_of image hart))
         result.status result.hart }
 
     // All boxes are handed back, as they were where nothing ran and memory was there.
@@ -217,16 +247,8 @@ pub fn host_one<W: Watcher, F: Files, O: Sink, E: Sink>(
     ensures writes { F.write_faults files.new ≡ F.write_faults files.old }
 {
     let name = file_name(words);
-    let Some(verb) = asked_verb(words) else {
-        let status = refuse(alloc, report, name, &Refusal::Usage);
-        return OneEnded {
-            status,
-            hart: None,
-            watchers,
-        };
-    };
-    let image = match named_image(alloc, files, name) {
-        Ok(image) => image,
+    let (verb, image) = match asked_image(alloc, words, files, name) {
+        Ok(asked) => asked,
         Err(refusal) => {
             let status = refuse(alloc, report, name, &refusal);
             return OneEnded {

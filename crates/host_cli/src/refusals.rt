@@ -5,10 +5,9 @@ ghost use Rattle.std.specs.Fmt.{decimal};
 ghost use Rattle.flat_model.specs.Texts.{hex};
 ghost use Rattle.host_cli.specs.Refusals.{refusal_status, index_text, image_text, refusal_text, refusal_line};
 
-use crate::texts::{put, put_both, put_decimal};
 use elf_image::ImageRefusal;
 use flat_model::NoMemory;
-use rv_text::hex;
+use number_text::{put_decimal, put_hex, put_text, put_wide_decimal};
 use std::alloc::Global;
 
 /// A call that does no run.
@@ -39,143 +38,125 @@ impl Refusal {
     }
 }
 
-impl Refusal {
-    /// The line of a refusal that names no file and no rule, which takes no memory.
-    pub fn bare_line(&self) -> &'static [u8]
-        ensures usage { self.now ≡ Refusal.Usage → result.now ≡ refusal_line [] Refusal.Usage }
-        ensures memory { self.now ≡ Refusal.OutOfMemory → result.now ≡ refusal_line [] Refusal.OutOfMemory }
-    {
-        match self {
-            Refusal::Usage => b"tcg_host: not built\n",
-            _ => b"tcg_host: out of memory\n",
-        }
-    }
-}
+/// The line of want of memory, which takes none.
+pub const OUT_OF_MEMORY: &[u8] = b"tcg_host: out of memory\n";
 
 /// Puts two numbers with what stands before each.
 fn put_pair(
-    alloc: Global,
     out: &mut Vec<u8>,
-    before: &[u8],
+    before: &str,
     first: u128,
-    between: &[u8],
+    between: &str,
     second: u128,
 ) -> Result<(), NoMemory>
-    ensures text { OnOk result (out.new.items ≡ out.old.items ++ (before.now ++ (decimal first ++ (between.now ++ decimal second)))) }
+    ensures text { OnOk result (out.new.items ≡ out.old.items
+        ++ (before.now ++ (decimal first ++ (between.now ++ decimal second)))) }
 {
-    put(out, before)?;
-    put_decimal(alloc, out, first)?;
-    put(out, between)?;
-    put_decimal(alloc, out, second)
+    put_text(out, before)?;
+    put_wide_decimal(out, first)?;
+    put_text(out, between)?;
+    put_wide_decimal(out, second)
 }
 
 /// Puts an index with what stands before and after it.
-fn put_index(
-    alloc: Global,
-    out: &mut Vec<u8>,
-    before: &[u8],
-    index: u32,
-    after: &[u8],
-) -> Result<(), NoMemory>
+fn put_index(out: &mut Vec<u8>, before: &str, index: u32, after: &str) -> Result<(), NoMemory>
     ensures text { OnOk result (out.new.items ≡ out.old.items ++ index_text before.now index after.now) }
 {
-    put(out, before)?;
-    put_decimal(alloc, out, u128::from(index))?;
-    put(out, after)
+    put_text(out, before)?;
+    put_decimal(out, u64::from(index))?;
+    put_text(out, after)
 }
 
 /// Puts 16 hexadecimal digits with what stands before and after them.
-fn put_address(out: &mut Vec<u8>, before: &[u8], address: u64, after: &[u8]) -> Result<(), NoMemory>
+fn put_address(out: &mut Vec<u8>, before: &str, address: u64, after: &str) -> Result<(), NoMemory>
     ensures text { OnOk result (out.new.items ≡ out.old.items ++ (before.now ++ (hex 16 address ++ after.now))) }
 {
-    put(out, before)?;
-    hex(address, 16, out)?;
-    put(out, after)
+    put_text(out, before)?;
+    put_hex(out, address, 16)?;
+    put_text(out, after)
 }
 
 /// Puts the text of the rule that a file breaks.
-fn put_image_text(alloc: Global, out: &mut Vec<u8>, refusal: &ImageRefusal) -> Result<(), NoMemory>
+fn put_image_text(out: &mut Vec<u8>, refusal: &ImageRefusal) -> Result<(), NoMemory>
     ensures text { OnOk result (out.new.items ≡ out.old.items ++ image_text refusal.now) }
 {
     match *refusal {
         ImageRefusal::Short { need, got } => {
-            put_pair(alloc, out, b"file too short: need ", need, b", got ", got)
+            put_pair(out, "file too short: need ", need, ", got ", got)
         }
-        ImageRefusal::NotElf => put(out, b"not ELF"),
-        ImageRefusal::NotRv64 => put(out, b"not little-endian ELF64 for RISC-V"),
-        ImageRefusal::NotStatic => put(out, b"not a static executable"),
-        ImageRefusal::Compressed => put(out, b"compressed instructions"),
+        ImageRefusal::NotElf => put_text(out, "not ELF"),
+        ImageRefusal::NotRv64 => put_text(out, "not little-endian ELF64 for RISC-V"),
+        ImageRefusal::NotStatic => put_text(out, "not a static executable"),
+        ImageRefusal::Compressed => put_text(out, "compressed instructions"),
         ImageRefusal::BadHeaders { size } => {
-            put_index(alloc, out, b"program header size ", u32::from(size), b"")
+            put_index(out, "program header size ", u32::from(size), "")
         }
         ImageRefusal::HeadersPastEnd { need, got } => put_pair(
-            alloc,
             out,
-            b"program headers past the end: need ",
+            "program headers past the end: need ",
             need,
-            b", got ",
+            ", got ",
             got,
         ),
         ImageRefusal::Interpreted { index } => {
-            put_index(alloc, out, b"needs an interpreter: header ", index, b"")
+            put_index(out, "needs an interpreter: header ", index, "")
         }
-        ImageRefusal::TooMany { count } => {
-            put_index(alloc, out, b"", count, b" loadable segments")
-        }
+        ImageRefusal::TooMany { count } => { put_index(out, "", count, " loadable segments") }
         ImageRefusal::SegmentPastEnd { index } => {
-            put_index(alloc, out, b"segment ", index, b" past the end of the file")
+            put_index(out, "segment ", index, " past the end of the file")
         }
         ImageRefusal::SizesCross { index } => put_index(
-            alloc,
             out,
-            b"segment ",
+            "segment ",
             index,
-            b" larger in the file than in memory",
+            " larger in the file than in memory",
         ),
         ImageRefusal::AddressRange { index } => {
-            put_index(alloc, out, b"segment ", index, b" out of the address range")
+            put_index(out, "segment ", index, " out of the address range")
         }
         ImageRefusal::WritableCode { index } => {
-            put_index(alloc, out, b"segment ", index, b" writable and executable")
+            put_index(out, "segment ", index, " writable and executable")
         }
         ImageRefusal::Overlap { first, second } => {
             put_pair(
-                alloc,
                 out,
-                b"segments ",
+                "segments ",
                 u128::from(first),
-                b" and ",
+                " and ",
                 u128::from(second),
             )?;
-            put(out, b" overlap")
+            put_text(out, " overlap")
         }
         ImageRefusal::TooLarge { bytes } => {
-            put_decimal(alloc, out, bytes)?;
-            put(out, b" bytes of memory")
+            put_wide_decimal(out, bytes)?;
+            put_text(out, " bytes of memory")
         }
-        ImageRefusal::EntryNotCode { entry } => put_address(
-            out,
-            b"entry 0x",
-            entry,
-            b" is not code",
-        ),
+        ImageRefusal::EntryNotCode { entry } => put_address(out, "entry 0x", entry, " is not code"),
     }
 }
 
 /// Puts the text of a refusal, for the file of this name.
-fn put_text(alloc: Global, out: &mut Vec<u8>, name: &str, refusal: &Refusal) -> Result<(), NoMemory>
+fn put_refusal_text(out: &mut Vec<u8>, name: &str, refusal: &Refusal) -> Result<(), NoMemory>
     ensures text { OnOk result (out.new.items ≡ out.old.items ++ refusal_text name.now refusal.now) }
 {
     match refusal {
-        Refusal::Usage => put(out, b"not built"),
-        Refusal::CannotRead => put_both(out, b"cannot read ", name.as_bytes()),
-        Refusal::TooLong => put_both(out, name.as_bytes(), b" is longer than 67108864 bytes"),
+        Refusal::Usage => put_text(out, "not built"),
+        Refusal::CannotRead => put_both(out, "cannot read ", name),
+        Refusal::TooLong => put_both(out, name, " is longer than 67108864 bytes"),
         Refusal::Image(refusal) => {
-            put(out, b"image: ")?;
-            put_image_text(alloc, out, refusal)
+            put_text(out, "image: ")?;
+            put_image_text(out, refusal)
         }
-        Refusal::OutOfMemory => put(out, b"out of memory"),
+        Refusal::OutOfMemory => put_text(out, "out of memory"),
     }
+}
+
+/// Puts two pieces of text.
+fn put_both(out: &mut Vec<u8>, first: &str, second: &str) -> Result<(), NoMemory>
+    ensures text { OnOk result (out.new.items ≡ out.old.items ++ (first.now ++ second.now)) }
+{
+    put_text(out, first)?;
+    put_text(out, second)
 }
 
 /// The line of a refusal, for the file of this name.
@@ -187,8 +168,8 @@ pub(crate) fn refusal_line(
     ensures line { IfOk result (λ line. line.items ≡ refusal_line name.now refusal.now) }
 {
     let mut out = Vec::new(alloc);
-    put(&mut out, b"tcg_host: ")?;
-    put_text(alloc, &mut out, name, refusal)?;
-    put(&mut out, b"\n")?;
+    put_text(&mut out, "tcg_host: ")?;
+    put_refusal_text(&mut out, name, refusal)?;
+    put_text(&mut out, "\n")?;
     Ok(out)
 }

@@ -3,7 +3,7 @@
 ghost use Rattle.std.specs.Prelude.{◌≡◌, map, string_bytes, length, None, IsSome};
 ghost use Rattle.host_cli.specs.Words.{is_plain, verb_named, verb_of, file_of};
 
-use crate::listings::ListingOf;
+use code_listing::ListingOf;
 
 /// What a call is asked to do.
 #[derive(Clone, Copy, Debug, PartialEq, Eq)]

@@ -1,5 +1,7 @@
 //! Calls of the program on one file.
 
+ghost use Rattle.std.specs.Prelude.{◌≡◌, None, All, IfOk, vec_len};
+
 use crate::boxes::Listener;
 use flat_model::Event;
 use host_cli::{OneEnded, host_one};
@@ -7,6 +9,7 @@ use outer_io::{MemFiles, MemSink};
 use std::alloc::{AllocError, Global};
 use std::process::Abort;
 use std::test::Fail;
+use watcher_api::Watcher;
 
 /// The words of a call.
 pub fn texts(alloc: Global, words: &[&str]) -> Result<Vec<String>, AllocError> {
@@ -46,6 +49,22 @@ pub struct Finished {
     pub events: Vec<Event>,
 }
 
+/// Calls the program with these words, files, sinks and boxes. Its contract says of the boxes alone that they are back.
+pub fn called_with<W: Watcher>(
+    alloc: Global,
+    words: &[&str],
+    files: &mut MemFiles,
+    out: &mut MemSink,
+    report: &mut MemSink,
+    boxes: Vec<W>,
+) -> Result<OneEnded<W>, AllocError>
+    requires blank { All (λ w. W.kind_of w ≡ None) boxes.items }
+    ensures back { IfOk result (λ ended. vec_len ended.watchers ≡ vec_len boxes) }
+{
+    let words = texts(alloc, words)?;
+    Ok(host_one(alloc, &words, files, out, report, boxes))
+}
+
 /// Calls the program with these words, files and sinks.
 pub fn called(
     alloc: Global,
@@ -54,12 +73,11 @@ pub fn called(
     out: MemSink,
     report: MemSink,
 ) -> Result<Finished, Fail> {
-    let words = texts(alloc, words)?;
     let mut out = out;
     let mut report = report;
-    let mut watchers = Vec::new(alloc);
-    watchers.push(Listener::blank(alloc))?;
-    let ended = host_one(alloc, &words, files, &mut out, &mut report, watchers);
+    let mut boxes = Vec::new(alloc);
+    boxes.push(Listener::blank(alloc))?;
+    let ended = called_with(alloc, words, files, &mut out, &mut report, boxes)?;
     let OneEnded {
         status,
         mut watchers,

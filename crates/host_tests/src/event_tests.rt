@@ -1,7 +1,6 @@
-use crate::calls::{good_sink, only_file, ran, texts};
+use crate::calls::{called_with, good_sink, only_file, ran};
 use crate::files::{CODE, ECALL, EXIT_0, elf, with_data};
 use flat_model::{Ending, Event, Row, What};
-use host_cli::{OneEnded, host_one};
 use std::test::Fail;
 use watcher_api::{Recorder, Refuser, Watcher};
 
@@ -16,19 +15,6 @@ fn event(step: u64, what: What) -> Event {
 
 fn insn(step: u64, pc: u64, word: u32) -> Event {
     event(step, What::Insn { pc, word })
-}
-
-// An access of 8 bytes at 0x20000 by the third instruction.
-fn access(store: bool, value: u64) -> Event {
-    let what = What::Mem {
-        pc: 0x10008,
-        addr: 0x20000,
-        shift: 3,
-        signed: false,
-        store,
-        value,
-    };
-    event(3, what)
 }
 
 #[test]
@@ -56,7 +42,7 @@ fn the_first_box_hears_each_event_of_the_run(rt: HostRuntime) -> Result<(), Fail
 }
 
 #[test]
-fn an_atomic_tells_its_load_and_then_its_store(rt: HostRuntime) -> Result<(), Fail> {
+fn an_atomic_access_is_one_event(rt: HostRuntime) -> Result<(), Fail> {
     let alloc = rt.alloc();
     let words = [
         0x0002_02B7,
@@ -72,18 +58,26 @@ fn an_atomic_tells_its_load_and_then_its_store(rt: HostRuntime) -> Result<(), Fa
         b"hart 0 steps 6 blocks 1 exit 0\n".as_slice()
     );
     assert_eq!(rt; run.status, 0);
+    let addition = What::Mem {
+        pc: 0x10008,
+        addr: 0x20000,
+        shift: 3,
+        signed: false,
+        rw: 3,
+        read: 0,
+        written: 5,
+    };
     let want = [
         event(1, What::Init),
         event(1, What::Block { pc: CODE, n: 6 }),
         insn(1, CODE, 0x0002_02B7),
         insn(2, 0x10004, 0x0050_0313),
         insn(3, 0x10008, 0x0062_B3AF),
-        access(false, 0),
-        access(true, 5),
+        event(3, addition),
     ];
-    assert!(rt; run.events.len() > 7);
-    assert_eq!(rt; &run.events[..7], want.as_slice());
-    let mut later = run.events[7..].iter();
+    assert!(rt; run.events.len() > 6);
+    assert_eq!(rt; &run.events[..6], want.as_slice());
+    let mut later = run.events[6..].iter();
     assert!(rt; later.all(|event| !matches!(&event.what, What::Mem { .. })));
     Ok(())
 }
@@ -91,16 +85,21 @@ fn an_atomic_tells_its_load_and_then_its_store(rt: HostRuntime) -> Result<(), Fa
 #[test]
 fn the_recorder_tallies_the_instructions(rt: HostRuntime) -> Result<(), Fail> {
     let alloc = rt.alloc();
-    let words = texts(alloc, &["run", "F"])?;
+    let words = ["run", "F"];
     let mut files = only_file(alloc, &elf(alloc, CODE, &EXIT_0)?);
     let mut out = good_sink(alloc);
     let mut report = good_sink(alloc);
-    let mut watchers = Vec::new(alloc);
-    watchers.push(Recorder::blank(alloc))?;
-    let ended = host_one(alloc, &words, &mut files, &mut out, &mut report, watchers);
-    let OneEnded { watchers, .. } = ended;
-    let tally = watchers[0].tally(alloc)?;
-    let row = |key: u64, a: u64, b: u64| Row { key, a, b, c: 0 };
+    let mut boxes = Vec::new(alloc);
+    boxes.push(Recorder::blank(alloc))?;
+    let ended = called_with(alloc, &words, &mut files, &mut out, &mut report, boxes)?;
+    let tally = ended.watchers[0].tally(alloc)?;
+    let row = |key: u64, a: u64, b: u64| Row {
+        key,
+        a,
+        b,
+        c: 0,
+        d: 0,
+    };
     let want = [
         row(CODE, 0x05D0_0893, 1),
         row(0x10004, 0x0000_0513, 2),
@@ -113,15 +112,34 @@ fn the_recorder_tallies_the_instructions(rt: HostRuntime) -> Result<(), Fail> {
 #[test]
 fn a_box_without_memory_ends_the_run(rt: HostRuntime) -> Result<(), Fail> {
     let alloc = rt.alloc();
-    let words = texts(alloc, &["run", "F"])?;
+    let words = ["run", "F"];
     let mut files = only_file(alloc, &elf(alloc, CODE, &EXIT_0)?);
     let mut out = good_sink(alloc);
     let mut report = good_sink(alloc);
-    let mut watchers = Vec::new(alloc);
-    watchers.push(Refuser::blank(alloc, 3))?;
-    let ended = host_one(alloc, &words, &mut files, &mut out, &mut report, watchers);
+    let mut boxes = Vec::new(alloc);
+    boxes.push(Refuser::blank(alloc, 3))?;
+    let ended = called_with(alloc, &words, &mut files, &mut out, &mut report, boxes)?;
     assert_eq!(rt; ended.status, 7);
     assert!(rt; ended.hart.is_none());
     assert_eq!(rt; report.bytes(), b"tcg_host: out of memory\n".as_slice());
+    Ok(())
+}
+
+#[test]
+fn a_run_without_boxes_is_reported_as_any_other(rt: HostRuntime) -> Result<(), Fail> {
+    let alloc = rt.alloc();
+    let words = ["run", "F"];
+    let mut files = only_file(alloc, &elf(alloc, CODE, &EXIT_0)?);
+    let mut out = good_sink(alloc);
+    let mut report = good_sink(alloc);
+    let none: Vec<Recorder> = Vec::new(alloc);
+    let ended = called_with(alloc, &words, &mut files, &mut out, &mut report, none)?;
+    assert_eq!(rt; ended.status, 0);
+    assert_eq!(rt; ended.watchers.len(), 0);
+    assert_eq!(rt; out.piece_lengths().len(), 0);
+    assert_eq!(rt;
+        report.bytes(),
+        b"hart 0 steps 3 blocks 1 exit 0\n".as_slice()
+    );
     Ok(())
 }

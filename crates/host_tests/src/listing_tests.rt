@@ -1,5 +1,5 @@
 use crate::calls::{called, failing_sink, good_sink, only_file};
-use crate::files::{CODE, EXIT_0, elf, in_four_segments, nops_and_exit};
+use crate::files::{CODE, EXIT_0, all_words, elf, file_of, in_four_segments, nops_and_exit};
 use std::test::Fail;
 
 #[test]
@@ -8,6 +8,15 @@ fn code_is_listed_by_words_and_by_blocks(rt: HostRuntime) -> Result<(), Fail> {
     let exit = elf(alloc, CODE, &EXIT_0)?;
     let across = elf(alloc, 0x10FF8, &nops_and_exit(alloc, 2)?)?;
     let scattered = in_four_segments(alloc, &EXIT_0)?;
+    let adjoining = file_of(
+        alloc,
+        CODE,
+        &[
+            all_words(5, CODE, &EXIT_0[..2]),
+            all_words(5, CODE + 8, &EXIT_0[2..]),
+        ],
+        &EXIT_0,
+    )?;
     for (verb, file, want) in [
         (
             "disas",
@@ -23,6 +32,12 @@ fn code_is_listed_by_words_and_by_blocks(rt: HostRuntime) -> Result<(), Fail> {
             "blocks",
             scattered.as_slice(),
             "0000000000010000 3\n0000000000030000 3\n",
+        ),
+        // A region's list goes on into the next region, which has its own list.
+        (
+            "blocks",
+            adjoining.as_slice(),
+            "0000000000010000 3\n0000000000010008 1\n",
         ),
     ] {
         let mut files = only_file(alloc, file);

@@ -43,6 +43,7 @@ fn what_the_guest_writes_is_put_out(rt: HostRuntime) -> Result<(), Fail> {
         b"hart 0 steps 10 blocks 3 exit 0\n".as_slice()
     );
     assert!(rt; are_zeros(run.out.bytes(), 8192));
+    assert_eq!(rt; run.out.piece_lengths(), [4096, 4096].as_slice());
     Ok(())
 }
 

@@ -26,6 +26,7 @@ fn a_file_that_is_no_program_is_refused(rt: HostRuntime) -> Result<(), Fail> {
 fn each_refusal_has_its_status_and_line(rt: HostRuntime) -> Result<(), Fail> {
     let alloc = rt.alloc();
     let mut files = only_file(alloc, &elf(alloc, CODE, &EXIT_0)?);
+    let _ = files.add("BAD", b"no ELF file");
     for (words, status, line) in [
         (
             ["run", "none"].as_slice(),
@@ -36,10 +37,13 @@ fn each_refusal_has_its_status_and_line(rt: HostRuntime) -> Result<(), Fail> {
         (["run", "F", "F"].as_slice(), 2, "tcg_host: not built\n"),
         (["run", "-F"].as_slice(), 2, "tcg_host: not built\n"),
         (["walk", "F"].as_slice(), 2, "tcg_host: not built\n"),
+        (["walk", "none"].as_slice(), 2, "tcg_host: not built\n"),
+        (["walk", "BAD"].as_slice(), 2, "tcg_host: not built\n"),
         ([].as_slice(), 2, "tcg_host: not built\n"),
     ] {
         let call = called(alloc, words, &mut files, good_sink(alloc), good_sink(alloc))?;
         assert_eq!(rt; call.report.bytes(), line.as_bytes());
+        assert_eq!(rt; call.report.piece_lengths().len(), 1);
         assert_eq!(rt; call.status, status);
         assert_eq!(rt; call.events.len(), 0);
     }

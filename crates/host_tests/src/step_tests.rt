@@ -1,10 +1,10 @@
 use crate::files::{CODE, ECALL, elf, nops_and_exit, with_data};
-use crate::guests::{step, three_steps};
-use block_finder::{find, length};
+use crate::guests::steps;
+use block_finder::find;
 use elf_image::load;
-use flat_model::{Ending, Image, Refused};
+use flat_model::{Ending, Image, Mode, Refused};
 use guest_memory::Memory;
-use rv_exec::{Hart, RawLog, Services, private_step};
+use rv_exec::{Hart, RawLog, Services};
 use std::alloc::Global;
 use std::test::Fail;
 
@@ -24,55 +24,6 @@ fn a_block_has_512_words_at_most(rt: HostRuntime) -> Result<(), Fail> {
     let image = image_of(alloc, &file)?;
     assert_eq!(rt; find(alloc, &image, CODE)?.n, 512);
     assert_eq!(rt; find(alloc, &image, 0x10800)?.n, 4);
-    Ok(())
-}
-
-#[test]
-fn a_hart_ends_with_the_step_of_its_limit(rt: HostRuntime) -> Result<(), Fail> {
-    let alloc = rt.alloc();
-    let image = image_of(alloc, &elf(alloc, CODE, &[0x0000_006F])?)?;
-    let mut raw = RawLog::new(alloc)?;
-    let mut hart = Hart::first(&image, 0, 1);
-    for _ in 0..2000 {
-        if hart.ending.is_some() || hart.steps >= 1000 {
-            break;
-        }
-        raw.clear();
-        let n = length(&image, hart.pc);
-        private_step(0, &mut hart, &image, 1000, n, &mut raw);
-    }
-    assert_eq!(rt; hart.steps, 1000);
-    assert_eq!(rt; hart.ending, Some(Ending::Limit));
-    Ok(())
-}
-
-#[test]
-fn each_service_has_its_answer(rt: HostRuntime) -> Result<(), Fail> {
-    let alloc = rt.alloc();
-    let image = image_of(alloc, &with_data(alloc, &[ECALL])?)?;
-    // The number and a0 to a2; the answer, and how many zeros are written.
-    for (number, a0, a1, a2, answer, written) in [
-        (64, 7, 0, 1, -9, 0),
-        (64, 1, 0x20FFF, 2, -14, 0),
-        (64, 1, 0x3F_FFFE_0000, 5000, 4096, 4096),
-        (64, 2, 0, 0, 0, 0),
-        (1000, 0, 0, 0, -38, 0),
-    ] {
-        let answer: i64 = answer;
-        let mut memory = Memory::new(alloc, &image, 1)?;
-        let mut services = Services::new(alloc);
-        let mut raw = RawLog::new(alloc)?;
-        let mut hart = Hart::first(&image, 0, 1);
-        hart.x[17] = number;
-        hart.x[10] = a0;
-        hart.x[11] = a1;
-        hart.x[12] = a2;
-        step(0, &mut hart, &image, &mut memory, &mut services, &mut raw)?;
-        assert_eq!(rt; hart.x[10], answer.cast_unsigned(), "at {number} {a0}");
-        assert_eq!(rt; hart.ending, None);
-        assert_eq!(rt; services.output.len(), written);
-        assert!(rt; services.output.iter().all(|byte| *byte == 0));
-    }
     Ok(())
 }
 
@@ -97,23 +48,121 @@ fn a_store_of_another_hart_ends_a_reservation(rt: HostRuntime) -> Result<(), Fai
     // Whether the other hart stores between the LR and the SC, and the first one's exit code.
     for (between, code) in [(true, 1), (false, 0)] {
         let mut memory = Memory::new(alloc, &image, 2)?;
-        let mut services = Services::new(alloc);
+        let mut services = Services::new(alloc, &image, 2, Mode::All)?;
         let mut raw = RawLog::new(alloc)?;
-        let mut first = Hart::first(&image, 0, 2);
-        let mut second = Hart::first(&image, 1, 2);
-        three_steps(0, &mut first, &image, &mut memory, &mut services, &mut raw)?;
-        if between {
-            three_steps(1, &mut second, &image, &mut memory, &mut services, &mut raw)?;
-            three_steps(0, &mut first, &image, &mut memory, &mut services, &mut raw)?;
-        } else {
-            three_steps(0, &mut first, &image, &mut memory, &mut services, &mut raw)?;
-            three_steps(1, &mut second, &image, &mut memory, &mut services, &mut raw)?;
-        }
-        three_steps(1, &mut second, &image, &mut memory, &mut services, &mut raw)?;
+        let mut first = Hart::first(&image, 0, 2, Mode::All);
+        let mut second = Hart::first(&image, 1, 2, Mode::All);
+        steps(
+            3,
+            0,
+            &mut first,
+            &image,
+            &mut memory,
+            &mut services,
+            &mut raw,
+        )?;
+        let before = if between { 3 } else { 0 };
+        steps(
+            before,
+            1,
+            &mut second,
+            &image,
+            &mut memory,
+            &mut services,
+            &mut raw,
+        )?;
+        steps(
+            3,
+            0,
+            &mut first,
+            &image,
+            &mut memory,
+            &mut services,
+            &mut raw,
+        )?;
+        steps(
+            6,
+            1,
+            &mut second,
+            &image,
+            &mut memory,
+            &mut services,
+            &mut raw,
+        )?;
         assert_eq!(rt; first.steps, 6);
         assert_eq!(rt; first.ending, Some(Ending::Exited(code)));
         assert_eq!(rt; second.steps, 6);
         assert_eq!(rt; second.ending, Some(Ending::Exited(0)));
+    }
+    Ok(())
+}
+
+// Starts hart 1 behind the first exit with the argument 7, and exits with the answer; a hart that begins there exits with
+// its argument.
+const STARTING: [u32; 11] = [
+    0x0010_0513,
+    0x0001_05B7,
+    0x0205_8593,
+    0x0070_0613,
+    0x0000_18B7,
+    ECALL,
+    0x05D0_0893,
+    ECALL,
+    0x0006_0513,
+    0x05D0_0893,
+    ECALL,
+];
+
+#[test]
+fn a_parked_hart_begins_by_the_start_that_it_is_given(rt: HostRuntime) -> Result<(), Fail> {
+    let alloc = rt.alloc();
+    let image = image_of(alloc, &elf(alloc, CODE, &STARTING)?)?;
+    // The harts and the mode; the first hart's exit code, and whether the other one has a start then.
+    for (harts, mode, code, given) in [
+        (2, Mode::First, 0, true),
+        (3, Mode::First, 0, true),
+        (1, Mode::First, -22, false),
+        (2, Mode::All, -16, true),
+    ] {
+        let mut memory = Memory::new(alloc, &image, harts)?;
+        let mut services = Services::new(alloc, &image, harts, mode)?;
+        let mut raw = RawLog::new(alloc)?;
+        let mut first = Hart::first(&image, 0, harts, mode);
+        steps(
+            8,
+            0,
+            &mut first,
+            &image,
+            &mut memory,
+            &mut services,
+            &mut raw,
+        )?;
+        assert_eq!(rt;
+            first.ending,
+            Some(Ending::Exited(code)),
+            "with {harts} harts"
+        );
+        assert_eq!(rt; (first.steps, first.blocks), (8, 2));
+        let start = services.starts.get(1).copied().unwrap_or(None);
+        assert_eq!(rt; start.is_some(), given);
+        if harts < 2 || matches!(mode, Mode::All) {
+            continue;
+        }
+        let start = start.ok_or("no start")?;
+        assert_eq!(rt; (start.pc, start.arg), (0x10020, 7));
+        let mut second = Hart::started(1, harts, start);
+        steps(
+            8,
+            1,
+            &mut second,
+            &image,
+            &mut memory,
+            &mut services,
+            &mut raw,
+        )?;
+        assert_eq!(rt; second.ending, Some(Ending::Exited(7)));
+        assert_eq!(rt; second.steps, 3);
+        assert!(rt; services.starts.get(2).copied().unwrap_or(None).is_none());
     }
     Ok(())
 }

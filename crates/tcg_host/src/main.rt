@@ -1,52 +1,47 @@
 //! `tcg_host`: runs a static RV64 ELF file on the proved machine.
 #![tactic(auto)]
 
-use host_cli::{OneEnded, Refusal, host_one};
+use host_cli::{OUT_OF_MEMORY, host_one};
 use outer_io::{RealFiles, RealSink, Sink};
 use std::io::ErrorKind;
 use std::process::ExitCode;
-use std::rt::{Env, Files};
+use std::rt::Env;
 use std::{env, io};
-use watcher_api::Counter;
+use watcher_api::Recorder;
 
-/// The words without the program's own name.
+/// The words without the program's own name. Words that are no text aren't in the grammar, as no words at all aren't.
 fn words(rt: &(impl Env + AllocGlobal)) -> io::Result<Vec<String>> {
-    Ok(env::args(rt)?.skip(1).collect(rt.alloc())?)
-}
-
-/// Why the top call could not be made: the words are no text, or memory ran out.
-fn refusal(error: &io::Error) -> Refusal {
-    match error.kind() {
-        ErrorKind::InvalidData => Refusal::Usage,
-        _ => Refusal::OutOfMemory,
+    match env::args(rt) {
+        Ok(args) => Ok(args.skip(1).collect(rt.alloc())?),
+        Err(error) if error.kind() == ErrorKind::InvalidData => Ok(Vec::new(rt.alloc())),
+        Err(error) => Err(error),
     }
 }
 
-/// Makes the top call, over the real files and streams, with one box, which keeps no event.
-fn call(rt: &HostRuntime, report: &mut impl Sink) -> io::Result<OneEnded<Counter>> {
+/// Makes the top call, over the real files and streams. No box is handed in, so that nothing listens to a run.
+fn call(rt: &HostRuntime, report: &mut impl Sink) -> io::Result<u8> {
     let words = words(rt)?;
-    let mut watchers = Vec::with_capacity(rt.alloc(), 1)?;
-    watchers.push(Counter::blank())?;
+    let boxes: Vec<Recorder> = Vec::new(rt.alloc());
     let mut files = RealFiles::new(rt);
     let mut out = RealSink::new(rt.stdout());
-    Ok(host_one(
+    let ended = host_one(
         rt.alloc(),
         words.as_slice(),
         &mut files,
         &mut out,
         report,
-        watchers,
-    ))
+        boxes,
+    );
+    Ok(ended.status)
 }
 
 fn main(rt: HostRuntime) -> ExitCode {
     let mut report = RealSink::new(rt.stderr());
     match call(&rt, &mut report) {
-        Ok(ended) => ExitCode::from(ended.status),
-        Err(error) => {
-            let refusal = refusal(&error);
-            let _ = report.put(refusal.bare_line());
-            ExitCode::from(refusal.status())
+        Ok(status) => ExitCode::from(status),
+        Err(_) => {
+            let _ = report.put(OUT_OF_MEMORY);
+            ExitCode::from(7)
         }
     }
 }

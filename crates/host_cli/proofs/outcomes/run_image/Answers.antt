@@ -3,7 +3,7 @@ use Rattle.host_cli.specs.Answers.{ran, not_run}
 use Rattle.host_cli.proofs.outcomes.run_image.Goals as goal
 
 pub returns-in_default-clause-answers : goal.returns-in_default-clause-answers
-returns-in_default-clause-answers g c = rw c.refuse_for_memory.ensures.status (not_run refl c.refuse_for_memory.ensures.told)
+returns-in_default-clause-answers g c = rw c.refuse_for_memory.ensures.status (not_run (record { same = refl; faultless = refl }) c.refuse_for_memory.ensures.told)
 
 pub returns-clause-answers : goal.returns-clause-answers
 returns-clause-answers g c =

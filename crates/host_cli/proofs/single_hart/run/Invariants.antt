@@ -1,13 +1,17 @@
 use Rattle.std.proofs.Common.{◌≡◌, ◌-◌}
-use Rattle.host_cli.specs.Boxes.{events_of}
-use Rattle.host_cli.proofs.Running.{IsRunning}
+use Rattle.std.specs.Option.{option_map}
+use Rattle.block_finder.specs.Caches.{MayServe}
+use Rattle.host_cli.specs.Boxes.{events_of, with_events}
+use Rattle.host_cli.specs.Running.{IsRunning}
 use Rattle.host_cli.proofs.single_hart.run.Given as goal
 
-abbrev pub invariant-steps : goal.invariant-steps
-invariant-steps g l = record {
-  running : IsRunning l.image l.hart l.memory l.services.output.items l.services.group;
-  heard : l.to ≡ record l.initial.to { events = events_of l.image l.hart };
+abbrev pub invariant-turns : goal.invariant-turns
+invariant-turns g l = record {
+  running : IsRunning l.image l.hart l.memory l.services;
+  cache : MayServe l.cache l.image;
+  kept : l.raw.kept ≡ l.initial.raw.kept;
+  heard : l.to ≡ option_map (with_events (events_of l.image l.hart)) l.initial.to;
 }
 
-abbrev pub decreases-steps : goal.decreases-steps
-decreases-steps g l = 1000000 - l.hart.steps
+abbrev pub decreases-turns : goal.decreases-turns
+decreases-turns g l = 1000000 - l.hart.steps
