@@ -29,7 +29,11 @@ FREESTANDING = ["-march=rv64ima", "-ffreestanding", "-fno-builtin", "-msmall-dat
 ASSEMBLED = ["-march=rv64ima_zifencei", *BARE]
 LIBRARY = ["--specs=picolibc.specs", "-DPICOLIBC_INTEGER_PRINTF_SCANF", "-nostartfiles", "-T", "library.ld", "start.S"]
 # The compiler's library for rv64im has the M extension, and the one that it takes for rv64ima hasn't.
-LINKED = {"printing.c": ["-march=rv64im", *LIBRARY], "texts.c": ["-march=rv64ima", *LIBRARY]}
+LINKED = {
+    "printing.c": ["-march=rv64im", *LIBRARY],
+    "texts.c": ["-march=rv64ima", *LIBRARY],
+    "adjoining.S": [*ASSEMBLED, "-T", "adjoining.ld"],
+}
 SHARED = {"start.S"}
 NEEDED = {COMPILER: "gcc-riscv64-unknown-elf", STRIP: "binutils-riscv64-unknown-elf", blocks.QEMU: "qemu-user"}
 HEAD = """\
