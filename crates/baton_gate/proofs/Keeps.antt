@@ -1,5 +1,7 @@
 -- Each kind of atomic step keeps the rule.
-use Rattle.std.proofs.Common.{◌≡◌, ◌≢◌, ℕ, ◌+◌, ◌<◌, ◌≤◌, Bool, true, false, true≢false, List, [], ◌∷◌, ◌++◌, length, set, All, Some, None, IsSome, sym, refl, ap, ◌∙◌, subst, inl, inr, ⊎_elim, cond, if◌then◌else◌, ◌==◌, arith, length-append, eq-eqb, ne_eqb}
+use Rattle.std.proofs.Common.{◌≡◌, ◌≢◌, ℕ, ◌+◌, ◌<◌, ◌≤◌, Bool, true, false, true≢false, List, [], ◌∷◌}
+use Rattle.std.proofs.Common.{◌++◌, length, set, All, Some, None, IsSome, sym, refl, ap, ◌∙◌, subst, inl, inr, ⊎_elim, cond}
+use Rattle.std.proofs.Common.{if◌then◌else◌, ◌==◌, arith, length-append, eq-eqb, ne_eqb}
 use Rattle.std.proofs.lemmas.List.Elements.{All-nil, All-cons, All-head, All-tail, All-append, All-weaker}
 use Rattle.std.proofs.lemmas.List.Sums.{sum_by_push}
 use Rattle.std.proofs.lemmas.Option.{same_Some}
@@ -11,7 +13,8 @@ use Rattle.baton_gate.specs.declared.views.Ended.{Ended}
 use Rattle.baton_gate.specs.declared.views.View.{View}
 use Rattle.baton_gate.specs.declared.rule.Baton.{Baton}
 use Rattle.baton_gate.specs.Logs.{Ahead, Adds}
-use Rattle.baton_gate.specs.Course.{Course, unopened, opened, spent_view, taken, given, one_more, newcomer, ended_of, joined, holders, IsOf, Fits, IsAt, Runs, InCourse, IsTaken}
+use Rattle.baton_gate.specs.Course.{Course, unopened, opened, spent_view, taken, given, one_more, newcomer, ended_of, joined, holders, IsOf}
+use Rattle.baton_gate.specs.Course.{Fits, IsAt, Runs, InCourse, IsTaken}
 use Rattle.baton_gate.proofs.LogLemmas.{goes_nowhere, goes_weaker, goes_on, goes_same, goes_from}
 use Rattle.baton_gate.proofs.ViewLists.{sum_at_set, sum_at_le, at_more, all_set, at_one}
 

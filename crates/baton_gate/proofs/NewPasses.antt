@@ -1,5 +1,6 @@
 -- The passes of a new gate, in the order of their numbers.
-use Rattle.std.proofs.Common.{◌≡◌, ℕ, zero, suc, ◌+◌, List, [], ◌∷◌, ◌++◌, length, Some, slice_get, sym, refl, ap, ◌∙◌, subst, ◌⊎◌, inl, inr, ⊎_elim, arith, insert}
+use Rattle.std.proofs.Common.{◌≡◌, ℕ, zero, suc, ◌+◌, List, [], ◌∷◌, ◌++◌, length, Some, slice_get, sym, refl, ap}
+use Rattle.std.proofs.Common.{◌∙◌, subst, ◌⊎◌, inl, inr, ⊎_elim, arith, insert}
 use Rattle.std.proofs.lemmas.Option.{same_Some, none-some}
 use Rattle.baton_gate.specs.declared.passes.Pass.{Pass}
 use Rattle.baton_gate.specs.declared.gate.Gate.{Gate}

@@ -1,5 +1,6 @@
 -- What one mark does to the log of a tape.
-use Rattle.std.proofs.Common.{◌≡◌, ℕ, List, [], ◌∷◌, ◌++◌, reverse, Result, Ok, Err, is_ok, if◌then◌else◌, sym, refl, ap, ◌∙◌, subst}
+use Rattle.std.proofs.Common.{◌≡◌, ℕ, List, [], ◌∷◌, ◌++◌, reverse, Result, Ok, Err, is_ok, if◌then◌else◌, sym}
+use Rattle.std.proofs.Common.{refl, ap, ◌∙◌, subst}
 use Rattle.std.proofs.lemmas.List.{reverse-append}
 use Rattle.baton_gate.specs.Logs.{Adds}
 use Rattle.baton_gate.proofs.LogLemmas.{goes_nowhere, goes_once}

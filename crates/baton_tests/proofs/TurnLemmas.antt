@@ -1,5 +1,6 @@
 -- What one hold does to a shelf.
-use Rattle.std.proofs.Common.{◌≡◌, ℕ, List, [], ◌∷◌, ◌++◌, Contains, Result, Ok, Err, OnOk, OnErr, sym, refl, ap, ◌∙◌, subst}
+use Rattle.std.proofs.Common.{◌≡◌, ℕ, List, [], ◌∷◌, ◌++◌, Contains, Result, Ok, Err, OnOk, OnErr, sym, refl, ap}
+use Rattle.std.proofs.Common.{◌∙◌, subst}
 use Rattle.std.proofs.lemmas.List.Elements.{Contains-push}
 use Rattle.flat_model.specs.declared.refusals.NoMemory.{NoMemory}
 use Rattle.baton_gate.specs.declared.passes.Pass.{Pass}

@@ -1,5 +1,6 @@
 -- The bases of regions that end below the stacks.
-use Rattle.std.proofs.Common.{◌≡◌, ◌+◌, ◌<◌, ◌≤◌, ℕ, Bool, true, false, cond, List, [], ◌∷◌, All, length, map, filter, refl, arith}
+use Rattle.std.proofs.Common.{◌≡◌, ◌+◌, ◌<◌, ◌≤◌, ℕ, Bool, true, false, cond, List, [], ◌∷◌, All, length, map}
+use Rattle.std.proofs.Common.{filter, refl, arith}
 use Rattle.std.proofs.lemmas.List.Elements.{All-head, All-tail, All-cons}
 use Rattle.flat_model.specs.Image.{Segment, end_of}
 use Rattle.code_listing.specs.Listings.{code_bases}

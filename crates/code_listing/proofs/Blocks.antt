@@ -1,5 +1,6 @@
 -- A block at a present word has words.
-use Rattle.std.proofs.Common.{◌≡◌, ◌<◌, ◌+◌, ◌-◌, ◌/◌, ◌%◌, ℕ, suc, min, Bool, true, false, Option, Some, None, IsSome, refl, arith}
+use Rattle.std.proofs.Common.{◌≡◌, ◌<◌, ◌+◌, ◌-◌, ◌/◌, ◌%◌, ℕ, suc, min, Bool, true, false, Option, Some, None}
+use Rattle.std.proofs.Common.{IsSome, refl, arith}
 use Rattle.std.proofs.lemmas.Bool.{false≢true}
 use Rattle.flat_model.specs.Image.{Program, word_at}
 use Rattle.flat_model.specs.Blocks.{word_ends, counted, length_within, length_of}

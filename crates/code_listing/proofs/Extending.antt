@@ -1,9 +1,11 @@
 -- One line more, and one list more.
-use Rattle.std.proofs.Common.{◌≡◌, ◌+◌, ◌*◌, ◌<◌, ℕ, List, [], ◌∷◌, ◌++◌, Some, None, length, take, get_or, refl, sym, ◌∙◌, ap, subst, append_assoc}
+use Rattle.std.proofs.Common.{◌≡◌, ◌+◌, ◌*◌, ◌<◌, ℕ, List, [], ◌∷◌, ◌++◌, Some, None, length, take, get_or}
+use Rattle.std.proofs.Common.{refl, sym, ◌∙◌, ap, subst, append_assoc}
 use Rattle.std.proofs.lemmas.List.{append-nil}
 use Rattle.flat_model.specs.Image.{Program, word_at}
 use Rattle.code_listing.specs.declared.listings.ListingOf.{ListingOf}
-use Rattle.code_listing.specs.Listings.{entry_words, entry_text, Lines, no_line, line_more, HasLines, IsRestListed, Lists, list_more, round_up}
+use Rattle.code_listing.specs.Listings.{entry_words, entry_text, Lines, no_line, line_more, HasLines, IsRestListed, Lists, list_more}
+use Rattle.code_listing.specs.Listings.{round_up}
 
 -- no line yet
 pub lines_none : (what : ListingOf) (image : Program) (first : ℕ) (text : List ℕ) → HasLines what image first first text text

@@ -1,5 +1,6 @@
 -- An accepted file's image keeps what every image keeps.
-use Rattle.std.proofs.Common.{◌≡◌, ℕ, ◌+◌, ◌%◌, ◌<◌, ◌≤◌, ◌⊎◌, min, max, Bool, true, false, ◌&&◌, ltb, eqb, cond, List, [], ◌∷◌, ◌++◌}
+use Rattle.std.proofs.Common.{◌≡◌, ℕ, ◌+◌, ◌%◌, ◌<◌, ◌≤◌, ◌⊎◌, min, max, Bool, true, false, ◌&&◌, ltb}
+use Rattle.std.proofs.Common.{eqb, cond, List, [], ◌∷◌, ◌++◌}
 use Rattle.std.proofs.Common.{length, map, filter, find, Option, Some, None, option_map, inl, inr, ⊎_elim, refl, arith, length-append}
 use Rattle.std.proofs.Common.{length-drop}
 use Rattle.std.specs.List.{AllByRecursion, list_any}

@@ -1,5 +1,6 @@
 -- A file loads exactly where it keeps each rule.
-use Rattle.std.proofs.Common.{◌≡◌, ◌≢◌, ℕ, zero, suc, ◌+◌, ◌*◌, ◌%◌, ◌<◌, ◌≤◌, min, max, Bool, true, false, not, ◌&&◌, ◌||◌, ltb, leb}
+use Rattle.std.proofs.Common.{◌≡◌, ◌≢◌, ℕ, zero, suc, ◌+◌, ◌*◌, ◌%◌, ◌<◌, ◌≤◌, min, max, Bool, true}
+use Rattle.std.proofs.Common.{false, not, ◌&&◌, ◌||◌, ltb, leb}
 use Rattle.std.proofs.Common.{eqb, List, [], ◌∷◌, ◌++◌, length, find, Option, None, sym, ap, subst, ⊎_elim, refl, arith, eq-eqb}
 use Rattle.std.specs.List.{AllByRecursion, All, AllPairs, Any, list_any}
 use Rattle.std.proofs.lemmas.Bool.{eqb-true, eqb-false, ne_eqb, leb-true, le-leb, ltb-true, ltb-false, le-ltb}

@@ -1,5 +1,6 @@
 -- Steps over the program header table.
-use Rattle.std.proofs.Common.{◌≡◌, ℕ, suc, ◌+◌, ◌-◌, ◌*◌, ◌<◌, ◌≤◌, cond, Bool, List, [], ◌∷◌, filter, find, Some, None, ◌∙◌, ◌≢◌, eq-eqb}
+use Rattle.std.proofs.Common.{◌≡◌, ℕ, suc, ◌+◌, ◌-◌, ◌*◌, ◌<◌, ◌≤◌, cond, Bool, List, [], ◌∷◌, filter}
+use Rattle.std.proofs.Common.{find, Some, None, ◌∙◌, ◌≢◌, eq-eqb}
 use Rattle.std.proofs.Common.{refl, arith}
 use Rattle.std.proofs.lemmas.Bool.{ne_eqb}
 use Rattle.elf_image.specs.declared.format.TheConstants.{PROGRAM_HEADER_BYTES, PT_LOAD, PT_INTERP}

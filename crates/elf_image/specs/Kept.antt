@@ -1,5 +1,6 @@
 -- What a file that loads keeps, rule by rule.
-use Rattle.std.specs.Prelude.{◌≡◌, ◌≢◌, ◌≤◌, ◌<◌, ◌+◌, ◌*◌, ◌%◌, ℕ, true, false, List, length, slice_index, sum_by, All, AllPairs, Any}
+use Rattle.std.specs.Prelude.{◌≡◌, ◌≢◌, ◌≤◌, ◌<◌, ◌+◌, ◌*◌, ◌%◌, ℕ, true, false, List, length}
+use Rattle.std.specs.Prelude.{slice_index, sum_by, All, AllPairs, Any}
 use Rattle.flat_model.specs.Fields.{flag}
 use Rattle.flat_model.specs.declared.limits.TheConstants.{FILE_MOST, SEGMENTS_MOST, SEGMENTS_END}
 use Rattle.elf_image.specs.declared.format.TheConstants.{ELF_HEADER_BYTES, PROGRAM_HEADER_BYTES, EI_MAG, EI_CLASS, EI_DATA, EI_VERSION}

@@ -1,5 +1,6 @@
 -- The rules of an ELF64 file that loads, in their order, each with its refusal and the numbers in it.
-use Rattle.std.specs.Prelude.{ℕ, ◌+◌, ◌*◌, ◌%◌, min, max, Bool, not, ◌&&◌, ◌||◌, ◌==◌, nat_lt, nat_le, if◌then◌else◌}
+use Rattle.std.specs.Prelude.{ℕ, ◌+◌, ◌*◌, ◌%◌, min, max, Bool, not, ◌&&◌, ◌||◌, ◌==◌, nat_lt, nat_le}
+use Rattle.std.specs.Prelude.{if◌then◌else◌}
 use Rattle.std.specs.Prelude.{List, [], ◌∷◌, ◌++◌, length, slice_index, find, sum_by, Option, Some, None, option_map}
 use Rattle.std.specs.List.{list_any}
 use Rattle.flat_model.specs.Fields.{flag}

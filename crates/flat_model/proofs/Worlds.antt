@@ -1,5 +1,6 @@
 -- Runs of one hart in a log.
-use Rattle.std.proofs.Common.{◌≡◌, ℕ, zero, suc, ◌==◌, true, List, [], ◌∷◌, ◌++◌, length, map, refl, sym, ◌∙◌, ap, append_assoc, arith}
+use Rattle.std.proofs.Common.{◌≡◌, ℕ, zero, suc, ◌==◌, true, List, [], ◌∷◌, ◌++◌, length, map, refl, sym, ◌∙◌}
+use Rattle.std.proofs.Common.{ap, append_assoc, arith}
 use Rattle.std.proofs.lemmas.List.{map-append, append-nil}
 use Rattle.std.proofs.lemmas.Bool.Decides.{nat_tests}
 use Rattle.flat_model.specs.declared.events.Event.{Event}
@@ -9,7 +10,8 @@ use Rattle.flat_model.specs.declared.journals.Item.TheVariants.{Step}
 use Rattle.flat_model.specs.World.{Machine, World, HartState, Shared}
 use Rattle.flat_model.specs.Step.{Stepped, step_of, step, steps_of}
 use Rattle.flat_model.specs.Log.{steps}
-use Rattle.flat_model.specs.Worlds.{world, hart_of, next_step, Placed, placed, events, unplaced, IsRunOf, RunsAlone, TellsItsSteps, TellsByStepsAlone}
+use Rattle.flat_model.specs.Worlds.{world, hart_of, next_step, Placed, placed, events, unplaced, IsRunOf, RunsAlone, TellsItsSteps}
+use Rattle.flat_model.specs.Worlds.{TellsByStepsAlone}
 
 same : (h : ℕ) → (h == h) ≡ true
 same h = grind (arith, nat_tests)

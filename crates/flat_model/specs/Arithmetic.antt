@@ -1,6 +1,7 @@
 -- What the instructions that compute give, on registers as unsigned 64-bit numbers: RISC-V Unprivileged ISA
 -- 20191213, sections 2.4, 2.5 and 5.2, and chapters 7 (M) and 8 (A).
-use Rattle.std.specs.Prelude.{ℕ, ◌+◌, ◌-◌, ◌*◌, ◌/◌, ◌%◌, ◌^◌, ◌==◌, Bool, true, false, not, if◌then◌else◌, nat_lt, ℤ, pos, ◌*ℤ◌}
+use Rattle.std.specs.Prelude.{ℕ, ◌+◌, ◌-◌, ◌*◌, ◌/◌, ◌%◌, ◌^◌, ◌==◌, Bool, true, false, not}
+use Rattle.std.specs.Prelude.{if◌then◌else◌, nat_lt, ℤ, pos, ◌*ℤ◌}
 use Rattle.std.specs.Prelude.{int_lt, int_div, int_rem, bit_and, bit_or, bit_xor}
 use Rattle.std.specs.Int.{Width, w8, w16, w32, w64, cast_signed, cast_unsigned, int_shr, from_bool}
 use mir.Val.{bits}

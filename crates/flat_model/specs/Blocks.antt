@@ -1,5 +1,6 @@
 -- Blocks: straight-line code within one page of 4,096 bytes, at most 512 words.
-use Rattle.std.specs.Prelude.{◌≡◌, ◌+◌, ◌-◌, ◌*◌, ◌/◌, ◌%◌, ◌<◌, ◌≤◌, ◌⊎◌, ℕ, zero, suc, min, if◌then◌else◌, Bool, true, false, Option}
+use Rattle.std.specs.Prelude.{◌≡◌, ◌+◌, ◌-◌, ◌*◌, ◌/◌, ◌%◌, ◌<◌, ◌≤◌, ◌⊎◌, ℕ, zero, suc, min}
+use Rattle.std.specs.Prelude.{if◌then◌else◌, Bool, true, false, Option}
 use Rattle.std.specs.Prelude.{Some, None, IsSome}
 use Rattle.std.specs.Option.{option_map_or}
 use Rattle.flat_model.specs.declared.limits.TheConstants.{PAGE_BYTES, BLOCK_WORDS}

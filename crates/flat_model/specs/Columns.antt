@@ -1,6 +1,7 @@
 -- What inline acts and conditions do with a hart's entries, which are unsigned 64-bit numbers. A column is
 -- the list of a hart's entries.
-use Rattle.std.specs.Prelude.{ℕ, ◌+◌, ◌%◌, ◌^◌, ◌==◌, Bool, true, false, not, nat_lt, nat_le, List, slice_index, slice_set, sum_by}
+use Rattle.std.specs.Prelude.{ℕ, ◌+◌, ◌%◌, ◌^◌, ◌==◌, Bool, true, false, not, nat_lt, nat_le, List, slice_index}
+use Rattle.std.specs.Prelude.{slice_set, sum_by}
 use Rattle.std.specs.Prelude.{replicate}
 use Rattle.flat_model.specs.declared.plugins.Op.{Op}
 use Rattle.flat_model.specs.declared.plugins.Op.TheVariants.{Add, Store}

@@ -1,6 +1,7 @@
 -- What an instruction does to the hart that carries it out, and what it asks of what the harts share (RISC-V
 -- Unprivileged ISA 20191213, chapters RV32I, RV64I, Zifencei, M and A).
-use Rattle.std.specs.Prelude.{ℕ, ◌-◌, ◌*◌, ◌%◌, ◌==◌, Bool, true, false, if◌then◌else◌, List, slice_index, slice_set, ℤ, Option, Some, None}
+use Rattle.std.specs.Prelude.{ℕ, ◌-◌, ◌*◌, ◌%◌, ◌==◌, Bool, true, false, if◌then◌else◌, List, slice_index}
+use Rattle.std.specs.Prelude.{slice_set, ℤ, Option, Some, None}
 use Rattle.std.specs.Option.{option_map_or}
 use Rattle.flat_model.specs.declared.instructions.Ins.{Ins}
 use Rattle.flat_model.specs.declared.instructions.Ins.TheVariants.{Lui, Auipc, Jal, Jalr, Branch, Load, Store, Imm, Reg, Atomic, Fence}

@@ -1,5 +1,6 @@
 -- The fields and immediates of an instruction word: RISC-V Unprivileged ISA 20191213, sections 2.2 and 2.3.
-use Rattle.std.specs.Prelude.{ℕ, ◌+◌, ◌-◌, ◌*◌, ◌/◌, ◌%◌, ◌^◌, ℤ, pos, negsuc, Bool, ◌==◌, nat_lt, if◌then◌else◌}
+use Rattle.std.specs.Prelude.{ℕ, ◌+◌, ◌-◌, ◌*◌, ◌/◌, ◌%◌, ◌^◌, ℤ, pos, negsuc, Bool, ◌==◌, nat_lt}
+use Rattle.std.specs.Prelude.{if◌then◌else◌}
 
 -- the `len` bits of a word from bit `low` on, as a number
 abbrev pub field : ℕ → ℕ → ℕ → ℕ

@@ -1,5 +1,6 @@
 -- The memory image that an ELF64 file gives: one segment for each PT_LOAD header, and the entry.
-use Rattle.std.specs.Prelude.{ℕ, ◌+◌, ◌-◌, ◌*◌, ◌%◌, ◌^◌, ◌≤◌, ◌≡◌, ◌⊎◌, ◌&&◌, ◌==◌, nat_le, Bool, false, if◌then◌else◌, List, length}
+use Rattle.std.specs.Prelude.{ℕ, ◌+◌, ◌-◌, ◌*◌, ◌%◌, ◌^◌, ◌≤◌, ◌≡◌, ◌⊎◌, ◌&&◌, ◌==◌, nat_le}
+use Rattle.std.specs.Prelude.{Bool, false, if◌then◌else◌, List, length}
 use Rattle.std.specs.Prelude.{slice_index, Option, None, option_map, find, All, AllPairs}
 use Rattle.flat_model.specs.declared.limits.TheConstants.{SEGMENTS_END}
 

@@ -1,6 +1,7 @@
 -- The instruction table of RV64IMA: which word is which instruction, with its fields in the manual's forms.
 -- RISC-V Unprivileged ISA 20191213, chapter 24, with RV32I, RV64I, Zifencei, M and A.
-use Rattle.std.specs.Prelude.{◌↔◌, ◌≡◌, ◌&&◌, ◌||◌, ◌^◌, ◌<◌, ◌%◌, ◌≤ℤ◌, ℕ, ℤ, pos, neg_ℤ, nat_abs, Bool, true, false, ◌==◌}
+use Rattle.std.specs.Prelude.{◌↔◌, ◌≡◌, ◌&&◌, ◌||◌, ◌^◌, ◌<◌, ◌%◌, ◌≤ℤ◌, ℕ, ℤ, pos, neg_ℤ}
+use Rattle.std.specs.Prelude.{nat_abs, Bool, true, false, ◌==◌}
 use Rattle.std.specs.Prelude.{if◌then◌else◌, Option, Some, None, option_map, option_and_then}
 use Rattle.std.specs.Option.{option_map_or}
 use Rattle.flat_model.specs.declared.instructions.Ins.{Ins}

@@ -1,6 +1,7 @@
 -- What an instruction leaves of its hart and of what the harts share, and what is told of it: RISC-V Unprivileged
 -- ISA 20191213, sections 2.6, 5.3 and 8.2 to 8.4; the services are this project's own, in `docs/guest-machine.md`.
-use Rattle.std.specs.Prelude.{ℕ, ◌+◌, ◌-◌, ◌%◌, ◌^◌, ◌==◌, ◌&&◌, ◌||◌, not, nat_lt, min, Bool, true, false, if◌then◌else◌, List, []}
+use Rattle.std.specs.Prelude.{ℕ, ◌+◌, ◌-◌, ◌%◌, ◌^◌, ◌==◌, ◌&&◌, ◌||◌, not, nat_lt, min, Bool, true, false}
+use Rattle.std.specs.Prelude.{if◌then◌else◌, List, []}
 use Rattle.std.specs.Prelude.{◌∷◌, ◌++◌, length, Option, Some, None, is_some, Result, Ok, Err, ℤ}
 use Rattle.std.specs.Int.{w32, cast_signed}
 use Rattle.flat_model.specs.declared.instructions.LoadOp.{LoadOp}

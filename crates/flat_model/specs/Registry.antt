@@ -1,6 +1,7 @@
 -- The plug-ins of a run: their states, sets and duties, as the log's orders, Backs, Leaves and Dones make
 -- them. `docs/plug-ins.md` has the state table and the rules of orders.
-use Rattle.std.specs.Prelude.{ℕ, ◌-◌, ◌*◌, Bool, true, false, not, ◌||◌, ◌&&◌, nat_lt, nat_le, if◌then◌else◌, List, [], ◌∷◌, ◌++◌}
+use Rattle.std.specs.Prelude.{ℕ, ◌-◌, ◌*◌, Bool, true, false, not, ◌||◌, ◌&&◌, nat_lt, nat_le, if◌then◌else◌, List}
+use Rattle.std.specs.Prelude.{[], ◌∷◌, ◌++◌}
 use Rattle.std.specs.Prelude.{length, map, replicate, position, slice_index, slice_get, slice_index_or, slice_set, Option, Some, None}
 use Rattle.std.specs.Prelude.{option_map, unwrap_or, is_some}
 use Rattle.std.specs.List.{list_any}

@@ -1,5 +1,6 @@
 -- The world of the flat machine: memory, reservations, output, the group's code, the harts and their starts.
-use Rattle.std.specs.Prelude.{nat_lt, ℕ, ◌+◌, ◌-◌, ◌%◌, ◌<◌, ◌≤◌, ◌≡◌, ◌==◌, Bool, true, false, if◌then◌else◌, length, List, [], replicate}
+use Rattle.std.specs.Prelude.{nat_lt, ℕ, ◌+◌, ◌-◌, ◌%◌, ◌<◌, ◌≤◌, ◌≡◌, ◌==◌, Bool, true, false}
+use Rattle.std.specs.Prelude.{if◌then◌else◌, length, List, [], replicate}
 use Rattle.std.specs.Prelude.{slice_set, slice_index, Option, Some, None, option_map, find, unwrap_or, ℤ}
 use Rattle.flat_model.specs.declared.events.Ending.{Ending}
 use Rattle.flat_model.specs.declared.journals.Mode.{Mode}

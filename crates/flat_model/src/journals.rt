@@ -66,7 +66,8 @@ pub enum Entry {
 }
 
 /// One item of a journal's log, in which a Turn of n is n steps. The last two stand in no journal: the state that the
-/// harts share keeps them between the others. No value of it is made.
+/// harts share keeps them between the others. A log is a list that proofs alone read.
+#[derive(Drop)]
 pub enum Item {
     Step { hart: u8 },
     Ordered { origin: Origin, order: Order },

@@ -116,6 +116,17 @@ pub struct Sub {
     pub act: Act,
 }
 
+impl Sub {
+    ghost use Rattle.flat_model.specs.Acts.{calling};
+
+    /// How many of the subscriptions call a box.
+    pub fn calling(subs: &[Sub]) -> usize
+        ensures calling { result ≡ calling subs.now }
+    {
+        subs.iter().filter(|sub| sub.act.calls()).count()
+    }
+}
+
 /// A list of subscriptions, fewer than 2^32.
 #[derive(Debug, Drop)]
 pub struct Subs {
@@ -184,8 +195,7 @@ impl SetSpec {
     pub fn calling(&self) -> u32
         ensures calling { result ≡ calling self.now.subs }
     {
-        let subs = self.subs.as_slice();
-        subs.iter().filter(|sub| sub.act.calls()).count() as u32
+        Sub::calling(self.subs.as_slice()) as u32
     }
 
     /// An equal set of its own.

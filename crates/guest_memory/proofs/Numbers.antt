@@ -1,5 +1,6 @@
 -- Numbers and the bytes that hold them.
-use Rattle.std.proofs.Common.{◌≡◌, ℕ, zero, suc, ◌+◌, ◌-◌, ◌<◌, ◌≤◌, ◌++◌, List, [], ◌∷◌, length, take, drop, get_or, refl, ap, ◌∙◌}
+use Rattle.std.proofs.Common.{◌≡◌, ℕ, zero, suc, ◌+◌, ◌-◌, ◌<◌, ◌≤◌, ◌++◌, List, [], ◌∷◌, length, take}
+use Rattle.std.proofs.Common.{drop, get_or, refl, ap, ◌∙◌}
 use Rattle.std.proofs.Common.{arith, drop-cons, append_assoc}
 use Rattle.std.proofs.lemmas.List.{get_or-drop, append-nil}
 use Rattle.std.proofs.Math.Path.{fun_ext}

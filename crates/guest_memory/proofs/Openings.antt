@@ -1,5 +1,6 @@
 -- The opening memory.
-use Rattle.std.proofs.Common.{◌≡◌, ℕ, zero, suc, ◌+◌, ◌-◌, ◌*◌, ◌<◌, ◌≤◌, ◌++◌, ◌⊎◌, Bool, true, false, cond, List, [], ◌∷◌, length, map}
+use Rattle.std.proofs.Common.{◌≡◌, ℕ, zero, suc, ◌+◌, ◌-◌, ◌*◌, ◌<◌, ◌≤◌, ◌++◌, ◌⊎◌, Bool, true}
+use Rattle.std.proofs.Common.{false, cond, List, [], ◌∷◌, length, map}
 use Rattle.std.proofs.Common.{get_or, Option, Some, None, replicate, option_map, unwrap_or, refl, sym, ap, ◌∙◌, arith, inl, inr}
 use Rattle.std.proofs.Common.{append_assoc}
 use Rattle.std.specs.List.{find, All, AllPairs, slice_index}

@@ -1,5 +1,6 @@
 -- Places among the regions, and what is permitted there.
-use Rattle.std.proofs.Common.{◌≡◌, ℕ, zero, suc, ◌+◌, ◌-◌, ◌<◌, ◌≤◌, ◌^◌, ◌&&◌, ◌||◌, ltb, leb, Bool, true, false, cond, List, [], ◌∷◌}
+use Rattle.std.proofs.Common.{◌≡◌, ℕ, zero, suc, ◌+◌, ◌-◌, ◌<◌, ◌≤◌, ◌^◌, ◌&&◌, ◌||◌, ltb, leb, Bool}
+use Rattle.std.proofs.Common.{true, false, cond, List, [], ◌∷◌}
 use Rattle.std.proofs.Common.{length, map, take, drop, get_or, Option, Some, None, MatchOption, refl, sym, ap, ◌∙◌, subst, arith, inl}
 use Rattle.std.proofs.Common.{inr, ◌⊎◌, length-take-le}
 use Rattle.std.specs.List.{list_any, find, position, position_or_len, AllPairs, slice_index, slice_get}

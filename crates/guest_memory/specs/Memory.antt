@@ -1,5 +1,6 @@
 -- The guest's memory: what it holds at each address, who may access it, and what its calls do.
-use Rattle.std.specs.Prelude.{◌≡◌, ℕ, ◌<◌, ◌≤◌, ◌&&◌, Bool, true, false, if◌then◌else◌, List, [], ◌∷◌, ◌++◌, zero, suc, replicate, map}
+use Rattle.std.specs.Prelude.{◌≡◌, ℕ, ◌<◌, ◌≤◌, ◌&&◌, Bool, true, false, if◌then◌else◌, List, [], ◌∷◌}
+use Rattle.std.specs.Prelude.{◌++◌, zero, suc, replicate, map}
 use Rattle.std.specs.Prelude.{length, slice_index_or, Option, None, All, AllPairs}
 use Rattle.flat_model.specs.declared.limits.TheConstants.{STACKS_END, STACK_BYTES}
 use Rattle.flat_model.specs.Image.{Segment, Program, AreApart, end_of, holds}

@@ -1,6 +1,7 @@
 //! The memory and its calls.
 
-ghost use Rattle.std.specs.Prelude.{◌≡◌, ◌+◌, ◌-◌, ◌%◌, ◌^◌, ◌<◌, ◌≤◌, ◌++◌, Some, true, false, MatchResult, IfOk, vec_len, vec_capacity};
+ghost use Rattle.std.specs.Prelude.{◌≡◌, ◌+◌, ◌-◌, ◌%◌, ◌^◌, ◌<◌, ◌≤◌, ◌++◌, Some, true, false};
+ghost use Rattle.std.specs.Prelude.{MatchResult, IfOk, vec_len, vec_capacity};
 ghost use Rattle.flat_model.specs.Access.{bytes_from};
 ghost use Rattle.flat_model.specs.Permission.{Readable, may};
 ghost use Rattle.guest_memory.specs.Memory.{MemoryState, IsOpening, IsLoad, IsStore, IsNoStore, IsReserved};

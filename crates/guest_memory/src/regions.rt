@@ -1,6 +1,7 @@
 //! Accesses of the regions.
 
-ghost use Rattle.std.specs.Prelude.{◌≡◌, ℕ, ◌+◌, ◌-◌, ◌^◌, ◌<◌, ◌≤◌, ◌&&◌, ◌++◌, true, false, take, drop, length, map};
+ghost use Rattle.std.specs.Prelude.{◌≡◌, ℕ, ◌+◌, ◌-◌, ◌^◌, ◌<◌, ◌≤◌, ◌&&◌, ◌++◌, true, false, take};
+ghost use Rattle.std.specs.Prelude.{drop, length, map};
 ghost use Rattle.std.specs.Prelude.{position, slice_index, slice_set, MatchOption, MatchBool, IfSome, IfNone, vec_len};
 ghost use Rattle.std.specs.Prelude.{vec_capacity};
 ghost use Rattle.std.specs.List.{list_any};

@@ -1,6 +1,7 @@
 //! The reservations of the harts.
 
-ghost use Rattle.std.specs.Prelude.{◌≡◌, ℕ, ◌+◌, ◌<◌, ◌≤◌, ◌^◌, length, slice_index_or, None, ◌&&◌, nat_le, if◌then◌else◌};
+ghost use Rattle.std.specs.Prelude.{◌≡◌, ℕ, ◌+◌, ◌<◌, ◌≤◌, ◌^◌, length, slice_index_or, None, ◌&&◌, nat_le};
+ghost use Rattle.std.specs.Prelude.{if◌then◌else◌};
 ghost use Rattle.flat_model.specs.Access.{touches, left_by, ended, is_reserved, with_reservation};
 
 /// Whether the 8 bytes reserved at `a` share one with the `n` from `addr`.

@@ -1,5 +1,6 @@
 -- How the steps of one hart make its run.
-use Rattle.std.proofs.Common.{◌≡◌, ℕ, ◌<◌, ◌≤◌, ◌+◌, ◌*◌, zero, suc, false, length, min, Option, None, Some, refl, sym, ◌∙◌, ap, List, [], ◌++◌, arith, append_assoc}
+use Rattle.std.proofs.Common.{◌≡◌, ℕ, ◌<◌, ◌≤◌, ◌+◌, ◌*◌, zero, suc, false, length, min, Option, None, Some, refl}
+use Rattle.std.proofs.Common.{sym, ◌∙◌, ap, List, [], ◌++◌, arith, append_assoc}
 use Rattle.std.specs.Option.{option_map, IfSome}
 use Rattle.std.proofs.lemmas.List.{append-nil}
 use Rattle.std.proofs.lemmas.Bool.Decides.{nat_tests}

@@ -1,6 +1,7 @@
 //! The top call of one hart.
 
-ghost use Rattle.std.specs.Prelude.{◌≡◌, ◌⊎◌, ℕ, [], ◌∷◌, map, string_bytes, MatchResult, None, Some, All, vec_len, ◌≢◌};
+ghost use Rattle.std.specs.Prelude.{◌≡◌, ◌⊎◌, ℕ, [], ◌∷◌, map, string_bytes, MatchResult, None, Some, All, vec_len};
+ghost use Rattle.std.specs.Prelude.{◌≢◌};
 ghost use Rattle.outer_io.specs.Counts.{IsFaultless};
 ghost use Rattle.flat_model.specs.Texts.{status_of, is_failed_group};
 ghost use Rattle.elf_image.specs.Loads.{Loads, Refuses};

@@ -1,6 +1,7 @@
 //! A run of one hart, which a box may hear.
 
-ghost use Rattle.std.specs.Prelude.{◌≡◌, ◌++◌, ◌+◌, ◌<◌, ◌≤◌, ℕ, [], ◌∷◌, true, false, All, IfOk, OnOk, IfSome, IsSome, None, Some};
+ghost use Rattle.std.specs.Prelude.{◌≡◌, ◌++◌, ◌+◌, ◌<◌, ◌≤◌, ℕ, [], ◌∷◌, true, false, All, IfOk, OnOk};
+ghost use Rattle.std.specs.Prelude.{IfSome, IsSome, None, Some};
 ghost use Rattle.std.specs.Prelude.{length, vec_len, drop, is_some};
 ghost use Rattle.std.specs.Option.{option_map};
 ghost use Rattle.flat_model.specs.Blocks.{length_of};

@@ -1,5 +1,6 @@
 -- The laws of kinds and acts.
-use Rattle.std.proofs.Common.{◌≡◌, ℕ, zero, suc, ◌^◌, ◌<◌, List, [], ◌∷◌, ◌++◌, Option, Some, None, Ok, refl, sym, ap, subst, ◌∙◌}
+use Rattle.std.proofs.Common.{◌≡◌, ℕ, zero, suc, ◌^◌, ◌<◌, List, [], ◌∷◌, ◌++◌, Option, Some, None, Ok, refl, sym}
+use Rattle.std.proofs.Common.{ap, subst, ◌∙◌}
 use Rattle.std.specs.Prelude.{IfSome}
 use Rattle.std.specs.Int.{w32, w64, to_le_bytes}
 use Rattle.flat_model.specs.declared.plugins.Op.{Op}
@@ -15,9 +16,11 @@ use Rattle.flat_model.specs.Kinds.{staying, resetting, uninstalling}
 use Rattle.journal_file.specs.declared.refusal.Fault.{Fault}
 use Rattle.journal_file.specs.Table.{op_byte, op_of, cond_byte, cond_of, ask_byte}
 use Rattle.journal_file.specs.Spelling.{name, kind, stored, act, FitsName, FitsKind, FitsAct, FitsInline, FitsCond}
-use Rattle.journal_file.specs.Reading.{◌>>=◌, byte_at, number_at, op_at, cond_at, named, name_at, kind_of, kind_at, flagged, stored_at, inline_at, conditional_at, acted, act_at}
+use Rattle.journal_file.specs.Reading.{◌>>=◌, byte_at, number_at, op_at, cond_at, named, name_at, kind_of, kind_at, flagged, stored_at}
+use Rattle.journal_file.specs.Reading.{inline_at, conditional_at, acted, act_at}
 use Rattle.journal_file.proofs.MadeKind.{kind_of-made}
-use Rattle.journal_file.proofs.Laws.{IsBytes, IsBytes-rest, done, ok_is, Takes, Takes-then, Takes-byte, Takes-behind, Law, step, taken, again_then, again_last, bind_ok, byte_law, coded_law, law32, law64}
+use Rattle.journal_file.proofs.Laws.{IsBytes, IsBytes-rest, done, ok_is, Takes, Takes-then, Takes-byte, Takes-behind, Law, step, taken}
+use Rattle.journal_file.proofs.Laws.{again_then, again_last, bind_ok, byte_law, coded_law, law32, law64}
 
 -- ---- the tables
 

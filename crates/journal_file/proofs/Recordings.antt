@@ -1,5 +1,7 @@
 -- The laws of entries and of the whole file.
-use Rattle.std.proofs.Common.{◌≡◌, ℕ, zero, suc, ◌+◌, ◌^◌, ◌<◌, eqb, ◌||◌, Bool, true, false, cond, List, [], ◌∷◌, ◌++◌, length, Option, Some, None, Result, Ok, Err, refl, sym, ap, subst, ◌∙◌, append_assoc, arith, lit<}
+use Rattle.std.proofs.Common.{◌≡◌, ℕ, zero, suc, ◌+◌, ◌^◌, ◌<◌, eqb, ◌||◌, Bool, true, false, cond, List, []}
+use Rattle.std.proofs.Common.{◌∷◌, ◌++◌, length, Option, Some, None, Result, Ok, Err, refl, sym, ap, subst, ◌∙◌}
+use Rattle.std.proofs.Common.{append_assoc, arith, lit<}
 use Rattle.std.specs.Prelude.{IfOk, IfSome, codes}
 use Rattle.std.specs.List.{flat_map, All, AllByRecursion}
 use Rattle.std.specs.Int.{w32, w64, to_le_bytes}
@@ -23,9 +25,12 @@ use Rattle.journal_file.specs.declared.refusal.FileRefusal.TheVariants.{Magic, V
 use Rattle.flat_model.specs.declared.journals.Mode.{Mode}
 use Rattle.flat_model.specs.declared.journals.Mode.TheVariants.{All as Every, First}
 use Rattle.journal_file.specs.Head.{Head, FileState, IsHead, are_within, mode_of, mode_byte}
-use Rattle.journal_file.specs.Spelling.{set, origin, order, entry, header, version_of, head_bytes, spelling, FitsOrigin, FitsOrder, FitsEntry, AreEntries, IsFile, HasFewSubs, HasFewSubsIn}
-use Rattle.journal_file.specs.Reading.{◌>>=◌, Gives, byte_at, number_at, set_at, given, origin_at, ordered, order_at, turn_at, entered, entry_at, placed, entries_at, version_at, judged, run_head_at, head_at, body_at, file_at}
-use Rattle.journal_file.proofs.Laws.{IsBytes, IsBytes-rest, done, ok_is, field, bind_ok, guard_ok, Takes, Takes-then, Takes-byte, Takes-behind, Law, step, taken, again_then, again_last, byte_law, law32, law64}
+use Rattle.journal_file.specs.Spelling.{set, origin, order, entry, header, version_of, head_bytes, spelling, FitsOrigin, FitsOrder}
+use Rattle.journal_file.specs.Spelling.{FitsEntry, AreEntries, IsFile, HasFewSubs, HasFewSubsIn}
+use Rattle.journal_file.specs.Reading.{◌>>=◌, Gives, byte_at, number_at, set_at, given, origin_at, ordered, order_at, turn_at, entered}
+use Rattle.journal_file.specs.Reading.{entry_at, placed, entries_at, version_at, judged, run_head_at, head_at, body_at, file_at}
+use Rattle.journal_file.proofs.Laws.{IsBytes, IsBytes-rest, done, ok_is, field, bind_ok, guard_ok, Takes, Takes-then, Takes-byte}
+use Rattle.journal_file.proofs.Laws.{Takes-behind, Law, step, taken, again_then, again_last, byte_law, law32, law64}
 use Rattle.journal_file.proofs.Sets.{set_law}
 
 -- ---- origins

@@ -1,5 +1,6 @@
 -- The laws of filters, subscriptions and sets.
-use Rattle.std.proofs.Common.{◌≡◌, ℕ, zero, suc, ◌<◌, List, [], ◌∷◌, ◌++◌, length, Ok, refl, sym, ap, subst, ◌∙◌}
+use Rattle.std.proofs.Common.{◌≡◌, ℕ, zero, suc, ◌<◌, List, [], ◌∷◌, ◌++◌, length, Ok, refl, sym, ap, subst}
+use Rattle.std.proofs.Common.{◌∙◌}
 use Rattle.std.specs.List.{flat_map, AllByRecursion}
 use Rattle.std.specs.Int.{w16, w64, to_le_bytes}
 use Rattle.std.proofs.lemmas.List.Concat.{flat_map-cons}
@@ -8,7 +9,8 @@ use Rattle.flat_model.specs.declared.plugins.Sub.{Sub}
 use Rattle.flat_model.specs.declared.plugins.SetSpec.{SetSpec}
 use Rattle.journal_file.specs.Spelling.{act, filter, sub, set, FitsFilter, FitsSub, FitsSet}
 use Rattle.journal_file.specs.Reading.{◌>>=◌, byte_at, number_at, act_at, filter_at, sub_at, subs_at, set_at}
-use Rattle.journal_file.proofs.Laws.{IsBytes, field, same_field, bind_ok, Takes, Takes-then, Law, step, taken, again_then, again_last, byte_law, law16, law64}
+use Rattle.journal_file.proofs.Laws.{IsBytes, field, same_field, bind_ok, Takes, Takes-then, Law, step, taken, again_then, again_last}
+use Rattle.journal_file.proofs.Laws.{byte_law, law16, law64}
 use Rattle.journal_file.proofs.Acts.{act_law}
 
 -- ---- filters

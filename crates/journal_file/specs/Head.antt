@@ -1,5 +1,6 @@
 -- What a journal file of version 2 says of its run.
-use Rattle.std.specs.Prelude.{ℕ, zero, suc, ◌*◌, ◌≡◌, ◌&&◌, Bool, true, nat_le, if◌then◌else◌, List, Option, Some, None}
+use Rattle.std.specs.Prelude.{ℕ, zero, suc, ◌*◌, ◌≡◌, ◌&&◌, Bool, true, nat_le, if◌then◌else◌, List, Option, Some}
+use Rattle.std.specs.Prelude.{None}
 use Rattle.flat_model.specs.declared.journals.Mode.{Mode}
 use Rattle.flat_model.specs.declared.journals.Mode.TheVariants.{All, First}
 use Rattle.flat_model.specs.declared.journals.Entry.{Entry}

@@ -1,6 +1,7 @@
 //! Writing a journal file.
 
-ghost use Rattle.std.specs.Prelude.{◌≡◌, ◌+◌, ◌++◌, ◌∷◌, ◌<◌, ◌≤◌, ◌^◌, ◌*◌, [], Some, Ok, List, IfSome, IfOk, OnOk, length};
+ghost use Rattle.std.specs.Prelude.{◌≡◌, ◌+◌, ◌++◌, ◌∷◌, ◌<◌, ◌≤◌, ◌^◌, ◌*◌, [], Some, Ok, List};
+ghost use Rattle.std.specs.Prelude.{IfSome, IfOk, OnOk, length};
 ghost use Rattle.std.specs.List.{All, AllByRecursion, flat_map};
 ghost use Rattle.std.specs.Int.{w16, w64, to_le_bytes};
 ghost use Rattle.journal_file.specs.Head.{IsHead, mode_byte};

@@ -1,6 +1,8 @@
 -- Hexadecimal digits: the last ones of a number, and all of them without leading zeros.
-use Rattle.std.proofs.Common.{◌≡◌, ℕ, zero, suc, ◌+◌, ◌-◌, ◌*◌, ◌/◌, ◌%◌, ◌^◌, ◌<◌, ◌≤◌, List, [], ◌∷◌, ◌++◌, take, take_all, drop}
-use Rattle.std.proofs.Common.{length, Bool, true, false, cond, eqb, eq-eqb, ne_eqb, refl, ap, sym, ◌∙◌, arith, append_assoc, append-nil}
+use Rattle.std.proofs.Common.{◌≡◌, ℕ, zero, suc, ◌+◌, ◌-◌, ◌*◌, ◌/◌, ◌%◌, ◌^◌, ◌<◌, ◌≤◌, List, []}
+use Rattle.std.proofs.Common.{◌∷◌, ◌++◌, take, take_all, drop}
+use Rattle.std.proofs.Common.{length, Bool, true, false, cond, eqb, eq-eqb, ne_eqb, refl, ap, sym, ◌∙◌, arith, append_assoc}
+use Rattle.std.proofs.Common.{append-nil}
 use Rattle.std.proofs.Common.{div-one, pow-add, pow_pos, div-lt_iff_lt-mul}
 use Rattle.std.proofs.Math.Nat.{div-div-eq-div-mul}
 use Rattle.std.specs.Fmt.{digits_onto, digits}

@@ -1,6 +1,7 @@
 //! Numbers in hexadecimal, in lower case.
 
-ghost use Rattle.std.specs.Prelude.{◌≡◌, ◌+◌, ◌-◌, ◌*◌, ◌++◌, ◌<◌, ◌≤◌, ◌^◌, length, vec_len, vec_capacity, IsOk, OnOk, OnErr};
+ghost use Rattle.std.specs.Prelude.{◌≡◌, ◌+◌, ◌-◌, ◌*◌, ◌++◌, ◌<◌, ◌≤◌, ◌^◌, length, vec_len};
+ghost use Rattle.std.specs.Prelude.{vec_capacity, IsOk, OnOk, OnErr};
 ghost use Rattle.flat_model.specs.Fields.{field};
 ghost use Rattle.flat_model.specs.Texts.{hex_digit, hex};
 ghost use Rattle.number_text.specs.ShortHex.{short_hex};

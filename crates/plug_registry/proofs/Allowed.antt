@@ -10,7 +10,8 @@ use Rattle.flat_model.specs.declared.journals.Order.TheVariants.{Install, Regist
 use Rattle.flat_model.specs.declared.orders.OrderRefusal.{OrderRefusal}
 use Rattle.flat_model.specs.declared.orders.OrderRefusal.TheVariants.{State}
 use Rattle.std.specs.Prelude.{not, is_some}
-use Rattle.flat_model.specs.Registry.{Plugins, first, boxes_of, is_installed, plugin_of, next_state, refused_if, count_refusal, state_refusal, size_refusal, range_refusal, entry_refusal, set_refusal, box_refusal, refusal}
+use Rattle.flat_model.specs.Registry.{Plugins, first, boxes_of, is_installed, plugin_of, next_state, refused_if, count_refusal}
+use Rattle.flat_model.specs.Registry.{state_refusal, size_refusal, range_refusal, entry_refusal, set_refusal, box_refusal, refusal}
 
 first-none : (a b : Option OrderRefusal) → first a b ≡ None → (a ≡ None) × (b ≡ None)
 first-none None b e = (refl, e)

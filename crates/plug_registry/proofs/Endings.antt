@@ -1,5 +1,6 @@
 -- How the sets of a slot have ended, once it has one more.
-use Rattle.std.proofs.Common.{◌≡◌, ◌<◌, ◌-◌, ◌++◌, ◌∷◌, [], ℕ, zero, suc, List, length, replicate, ap, sym, ◌∙◌, subst, refl, arith, Option, Some}
+use Rattle.std.proofs.Common.{◌≡◌, ◌<◌, ◌-◌, ◌++◌, ◌∷◌, [], ℕ, zero, suc, List, length, replicate, ap, sym}
+use Rattle.std.proofs.Common.{◌∙◌, subst, refl, arith, Option, Some}
 use Rattle.std.proofs.lemmas.List.{length-append}
 use Rattle.flat_model.specs.declared.journals.How.{How}
 use Rattle.flat_model.specs.declared.journals.How.TheVariants as how

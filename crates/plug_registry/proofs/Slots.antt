@@ -1,5 +1,6 @@
 -- What a registry shows after one slot was changed, and which room is kept.
-use Rattle.std.proofs.Common.{◌≡◌, ◌<◌, ◌-◌, ◌++◌, ◌∷◌, [], ℕ, Bool, true, false, List, length, map, take, ap, sym, ◌∙◌, refl, arith, zero, suc, nat_lt, nat_le, ◌&&◌}
+use Rattle.std.proofs.Common.{◌≡◌, ◌<◌, ◌-◌, ◌++◌, ◌∷◌, [], ℕ, Bool, true, false, List, length, map, take, ap}
+use Rattle.std.proofs.Common.{sym, ◌∙◌, refl, arith, zero, suc, nat_lt, nat_le, ◌&&◌}
 use Rattle.std.proofs.Math.ListN.{set, get_or}
 use Rattle.std.proofs.Math.Seq.{map-set_same}
 use Rattle.std.proofs.lemmas.Bool.{eqb-false}

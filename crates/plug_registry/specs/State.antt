@@ -1,5 +1,6 @@
 -- What a registry shows: the plug-ins of the run, and for which orders room was reserved.
-use Rattle.std.specs.Prelude.{ℕ, ◌-◌, ◌<◌, ◌≤◌, ◌≡◌, ◌==◌, Bool, true, false, List, [], ◌∷◌, ◌++◌, length, replicate}
+use Rattle.std.specs.Prelude.{ℕ, ◌-◌, ◌<◌, ◌≤◌, ◌≡◌, ◌==◌, Bool, true, false, List, [], ◌∷◌, ◌++◌}
+use Rattle.std.specs.Prelude.{length, replicate}
 use Rattle.std.specs.Prelude.{slice_index_or, vec_capacity, Vec, Option, Some, None}
 use Rattle.std.specs.List.{All}
 use Rattle.std.specs.Global.{Global}

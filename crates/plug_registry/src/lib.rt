@@ -2,7 +2,8 @@
 //! how each set has ended, and how many boxes are left. `docs/plug-ins.md` has the rules.
 #![tactic(auto)]
 
-ghost use Rattle.std.specs.Prelude.{◌≡◌, ◌<◌, ◌≤◌, ◌-◌, None, true, false, map, length, slice_index_or, IfOk, OnOk, OnErr, MatchOption};
+ghost use Rattle.std.specs.Prelude.{◌≡◌, ◌<◌, ◌≤◌, ◌-◌, None, true, false, map, length, slice_index_or, IfOk, OnOk};
+ghost use Rattle.std.specs.Prelude.{OnErr, MatchOption};
 ghost use Rattle.std.specs.List.{All};
 ghost use Rattle.std.specs.Result.{result_err};
 ghost use Rattle.flat_model.specs.declared.journals.PlugState.TheVariants as states;

@@ -1,10 +1,12 @@
 -- A log gives back the journal that it is the log of, where its Turns are joined.
-use Rattle.std.proofs.Common.{◌≡◌, ℕ, zero, suc, ◌+◌, false, cond, List, [], ◌∷◌, ◌++◌, Some, None, refl, sym, ap, subst, ◌∙◌, arith, append-nil, append_assoc, eq-eqb}
+use Rattle.std.proofs.Common.{◌≡◌, ℕ, zero, suc, ◌+◌, false, cond, List, [], ◌∷◌, ◌++◌, Some, None, refl, sym, ap}
+use Rattle.std.proofs.Common.{subst, ◌∙◌, arith, append-nil, append_assoc, eq-eqb}
 use Rattle.flat_model.specs.declared.journals.Entry.{Entry}
 use Rattle.flat_model.specs.declared.journals.Entry.TheVariants.{Turn, Order, Back, Leave, Done}
 use Rattle.flat_model.specs.declared.journals.Item.{Item}
 use Rattle.flat_model.specs.declared.journals.Item.TheVariants.{Step, Ordered, GaveBack, Left, Told, Got, Took}
-use Rattle.flat_model.specs.Log.{steps, with_entry, log_from, log, turning, are_one, HasSteps, IsJoinedAfter, IsJoined, last_turn, JournalIsOne}
+use Rattle.flat_model.specs.Log.{steps, with_entry, log_from, log, turning, are_one, HasSteps, IsJoinedAfter, IsJoined, last_turn}
+use Rattle.flat_model.specs.Log.{JournalIsOne}
 use Rattle.run_journal.specs.Journal.{recorded, replacing}
 use Rattle.run_journal.proofs.Recorded.{recorded-cons, alone-recorded, last_turn-push}
 

@@ -1,5 +1,6 @@
 -- What one more entry does to the log, to the joined Turns and to the number of steps.
-use Rattle.std.proofs.Common.{◌≡◌, ℕ, zero, suc, ◌+◌, ◌-◌, ◌*◌, ◌<◌, ◌≤◌, ◌^◌, eqb, Bool, true, false, cond, List, [], ◌∷◌, ◌++◌, length, Option, Some, None, refl, sym, ap, subst, ◌∙◌, arith}
+use Rattle.std.proofs.Common.{◌≡◌, ℕ, zero, suc, ◌+◌, ◌-◌, ◌*◌, ◌<◌, ◌≤◌, ◌^◌, eqb, Bool, true, false}
+use Rattle.std.proofs.Common.{cond, List, [], ◌∷◌, ◌++◌, length, Option, Some, None, refl, sym, ap, subst, ◌∙◌, arith}
 use Rattle.std.specs.Prelude.{IfSome, slice_get, slice_set}
 use Rattle.std.specs.List.{AllByRecursion}
 use Rattle.std.proofs.lemmas.Bool.{eqb-true}
@@ -7,7 +8,8 @@ use Rattle.flat_model.specs.declared.journals.Entry.{Entry}
 use Rattle.flat_model.specs.declared.journals.Entry.TheVariants.{Turn, Order, Back, Leave, Done}
 use Rattle.flat_model.specs.declared.journals.Item.{Item}
 use Rattle.flat_model.specs.declared.journals.Item.TheVariants.{Step}
-use Rattle.flat_model.specs.Log.{steps, with_entry, log_from, log, total_steps, turning, are_one, HasSteps, IsJoinedAfter, IsJoined, last_turn}
+use Rattle.flat_model.specs.Log.{steps, with_entry, log_from, log, total_steps, turning, are_one, HasSteps, IsJoinedAfter, IsJoined}
+use Rattle.flat_model.specs.Log.{last_turn}
 use Rattle.run_journal.specs.Journal.{IsSmall, joined, joined_turn, replacing, recorded, steps_in}
 
 pub steps-add : (hart n m : ℕ) (past : List Item) → steps hart (n + m) past ≡ steps hart m (steps hart n past)

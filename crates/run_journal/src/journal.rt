@@ -1,6 +1,7 @@
 //! Entries with neighbouring Turns of one hart joined, and the number of their steps.
 
-ghost use Rattle.std.specs.Prelude.{◌≡◌, ◌+◌, ◌-◌, ◌≤◌, ◌<◌, ◌^◌, ◌++◌, ◌∷◌, ◌↔◌, [], None, false, IsTrue, IfSome, IfOk, OnOk, OnErr};
+ghost use Rattle.std.specs.Prelude.{◌≡◌, ◌+◌, ◌-◌, ◌≤◌, ◌<◌, ◌^◌, ◌++◌, ◌∷◌, ◌↔◌, [], None};
+ghost use Rattle.std.specs.Prelude.{false, IsTrue, IfSome, IfOk, OnOk, OnErr};
 ghost use Rattle.std.specs.Prelude.{length, slice_index_or, slice_set, vec_len, vec_capacity};
 ghost use Rattle.flat_model.specs.Log.{log, with_entry, total_steps, HasSteps, IsJoined, last_turn, turning, are_one};
 ghost use Rattle.run_journal.specs.Journal.{IsSmall, joined_turn, recorded, steps_in};

@@ -1,5 +1,6 @@
 -- What a cut says of the pieces of a text.
-use Rattle.std.proofs.Common.{◌≡◌, ◌<◌, ◌≤◌, ◌+◌, ◌==◌, ◌∷◌, [], ◌∙◌, ℕ, Bool, true, false, not, List, Some, None, refl, sym, ap, arith, length, take, nat_lt, cond}
+use Rattle.std.proofs.Common.{◌≡◌, ◌<◌, ◌≤◌, ◌+◌, ◌==◌, ◌∷◌, [], ◌∙◌, ℕ, Bool, true, false, not, List}
+use Rattle.std.proofs.Common.{Some, None, refl, sym, ap, arith, length, take, nat_lt, cond}
 use Rattle.std.specs.List.{All, position_or_len, prefix_len, after_first}
 use Rattle.std.proofs.lemmas.Grind.{common_steps}
 use Rattle.std.proofs.lemmas.List.Elements.{All-nil, All-cons}

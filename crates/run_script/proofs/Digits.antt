@@ -1,5 +1,6 @@
 -- Digits are read as the number that they stand for.
-use Rattle.std.proofs.Common.{◌≡◌, ◌<◌, ◌≤◌, ◌+◌, ◌*◌, ◌^◌, ◌==◌, ◌&&◌, ◌∷◌, [], ◌∙◌, ℕ, suc, Bool, true, false, List, Some, None, refl, sym, ap, subst, arith, length, cond, nat_lt, nat_le, inl, inr}
+use Rattle.std.proofs.Common.{◌≡◌, ◌<◌, ◌≤◌, ◌+◌, ◌*◌, ◌^◌, ◌==◌, ◌&&◌, ◌∷◌, [], ◌∙◌, ℕ}
+use Rattle.std.proofs.Common.{suc, Bool, true, false, List, Some, None, refl, sym, ap, subst, arith, length, cond, nat_lt, nat_le, inl, inr}
 use Rattle.std.specs.Prelude.{option_and_then}
 use Rattle.std.proofs.lemmas.Bool.{and_parts, and_from, or_right, or_left, ltb-true, lt-ltb, leb-true, le-leb, cond-true}
 use Rattle.std.proofs.lemmas.Option.{option_and_then_some}

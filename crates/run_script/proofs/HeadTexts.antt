@@ -1,5 +1,7 @@
 -- A head is read as what its text spells.
-use Rattle.std.proofs.Common.{◌≡◌, ◌+◌, ◌-◌, ◌&&◌, ◌||◌, ◌∷◌, [], ◌++◌, ◌∙◌, ℕ, Bool, true, false, List, Option, Some, None, Result, Ok, refl, sym, ap, subst, arith, cond, length, take, drop, inl, inr, codes, append_assoc}
+use Rattle.std.proofs.Common.{◌≡◌, ◌+◌, ◌-◌, ◌&&◌, ◌||◌, ◌∷◌, [], ◌++◌, ◌∙◌, ℕ, Bool, true, false}
+use Rattle.std.proofs.Common.{List, Option, Some, None, Result, Ok, refl, sym, ap, subst, arith, cond, length, take, drop, inl, inr, codes}
+use Rattle.std.proofs.Common.{append_assoc}
 use Rattle.std.specs.Prelude.{Contains, bytes_eq, is_some}
 use Rattle.std.proofs.lemmas.List.{take_at, drop_at, length-append}
 use Rattle.std.proofs.lemmas.Slice.Eq.{bytes_eq-Decides}
@@ -13,7 +15,8 @@ use Rattle.run_script.specs.declared.heads.Head.TheVariants.{Boxed, Inline, When
 use Rattle.run_script.specs.Bytes.{before, after, tail_len, colon}
 use Rattle.run_script.specs.Names.{kind_names, cond_names, kind_named, cond_named}
 use Rattle.run_script.specs.Numbers.{number, entry_number}
-use Rattle.run_script.specs.Heads.{inline_of, inline_after, inline_head, when_of, when_numbers, when_named, when_tail, when_after, when_head, worded_head, act_head, or_act, head_of, calls_a_box}
+use Rattle.run_script.specs.Heads.{inline_of, inline_after, inline_head, when_of, when_numbers, when_named, when_tail, when_after}
+use Rattle.run_script.specs.Heads.{when_head, worded_head, act_head, or_act, head_of, calls_a_box}
 use Rattle.run_script.specs.Grammar.{SpellsHead, SpellsEntry, SpellsNum, op_word}
 use Rattle.run_script.proofs.Signs.{Free, is_plain, free_plain, free_append, before_at, after_at, cut_joins, tail_at, CutsLast, tail_cuts}
 use Rattle.run_script.proofs.Tables.{chosen, named_in, kinds_read, conds_read}

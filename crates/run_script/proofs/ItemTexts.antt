@@ -1,5 +1,6 @@
 -- An item is read as what its text spells.
-use Rattle.std.proofs.Common.{◌≡◌, ◌≤◌, ◌∷◌, ◌++◌, ◌∙◌, ℕ, true, false, List, Option, Some, None, Result, Ok, refl, sym, ap, subst, arith, nat_lt, inl, inr, codes}
+use Rattle.std.proofs.Common.{◌≡◌, ◌≤◌, ◌∷◌, ◌++◌, ◌∙◌, ℕ, true, false, List, Option, Some, None, Result, Ok}
+use Rattle.std.proofs.Common.{refl, sym, ap, subst, arith, nat_lt, inl, inr, codes}
 use Rattle.std.specs.Prelude.{bytes_eq}
 use Rattle.std.proofs.lemmas.Bool.{ltb-false, le-ltb, cond-false}
 use Rattle.std.proofs.lemmas.Slice.Eq.{bytes_eq-Decides}
@@ -11,7 +12,8 @@ use Rattle.run_script.specs.declared.items.Span.{Span}
 use Rattle.run_script.specs.Bytes.{before, after, minus, equals}
 use Rattle.run_script.specs.Names.{rw_names, mask}
 use Rattle.run_script.specs.Numbers.{number}
-use Rattle.run_script.specs.Items.{of_bits, bits_item, of_direction, direction, rw_item, of_stored, then_item, address, span_item, between, pc_item, named_item, with_value, item_of}
+use Rattle.run_script.specs.Items.{of_bits, bits_item, of_direction, direction, rw_item, of_stored, then_item, address, span_item, between}
+use Rattle.run_script.specs.Items.{pc_item, named_item, with_value, item_of}
 use Rattle.run_script.specs.Grammar.{SpellsItem, SpellsValue, item_name}
 use Rattle.run_script.specs.Parts.{IsOrdered}
 use Rattle.run_script.proofs.Signs.{Free, is_plain, free_plain, free_append, before_at, after_at, cut_joins}

@@ -1,9 +1,11 @@
 -- A part is read as what its text spells, where its items keep their rules.
-use Rattle.std.proofs.Common.{◌≡◌, ◌<◌, ◌+◌, ◌&&◌, ◌||◌, ◌∷◌, [], ◌++◌, ◌∙◌, ℕ, Bool, true, false, List, Option, Some, None, Result, Ok, Err, refl, sym, ap, subst, arith, cond, length, map, nat_le, inl, inr}
+use Rattle.std.proofs.Common.{◌≡◌, ◌<◌, ◌+◌, ◌&&◌, ◌||◌, ◌∷◌, [], ◌++◌, ◌∙◌, ℕ, Bool, true, false}
+use Rattle.std.proofs.Common.{List, Option, Some, None, Result, Ok, Err, refl, sym, ap, subst, arith, cond, length, map, nat_le, inl, inr}
 use Rattle.std.specs.Prelude.{bytes_eq, is_some}
 use Rattle.std.specs.List.{AllZip, AllByRecursion, IsDistinct, join_with_byte}
 use Rattle.std.specs.Option.{option_or}
-use Rattle.std.proofs.lemmas.Bool.{or_from, or_parts, and_cases, and_left, and_right, cond-false, lt-leb, leb-false, false≢true, cases_Bool}
+use Rattle.std.proofs.lemmas.Bool.{or_from, or_parts, and_cases, and_left, and_right, cond-false, lt-leb, leb-false, false≢true}
+use Rattle.std.proofs.lemmas.Bool.{cases_Bool}
 use Rattle.std.proofs.lemmas.List.Splits.{join_with_byte-slice_split}
 use Rattle.flat_model.specs.declared.plugins.SetSpec.{SetSpec}
 use Rattle.flat_model.specs.Acts.{calls, calling}
@@ -20,7 +22,8 @@ use Rattle.run_script.specs.Heads.{calls_a_box, is_when}
 use Rattle.run_script.specs.Words.{next, placed, with_text, items_from, items_after, with_sub, with_head, with_room, with_part}
 use Rattle.run_script.specs.Grammar.{Part, SpellsItem, SpellsHead, SpellsPart, item_name}
 use Rattle.run_script.specs.Parts.{kinds_in, pc_in, classes_in, rw_in, stored_in, given, items_of, IsPlaced, IsOrdered, KeepsItemRules}
-use Rattle.run_script.proofs.Signs.{Free, AllFree, free_texts, pieces_joined, before_at, after_at, before_whole, after_none, before_none, cut_joins}
+use Rattle.run_script.proofs.Signs.{Free, AllFree, free_texts, pieces_joined, before_at, after_at, before_whole, after_none, before_none}
+use Rattle.run_script.proofs.Signs.{cut_joins}
 use Rattle.run_script.proofs.Tables.{chosen, pieces_some}
 use Rattle.run_script.proofs.ItemTexts.{item_spelt, item_reads, item_free}
 use Rattle.run_script.proofs.HeadTexts.{head_spelt, head_reads, head_free, head_calls, calls_box}

@@ -1,12 +1,14 @@
 -- A set that is spelt by parts that keep the rules breaks no rule of sets.
-use Rattle.std.proofs.Common.{◌≡◌, ◌≤◌, ◌^◌, ◌-◌, ◌||◌, ◌∷◌, [], ◌∙◌, ℕ, Bool, false, not, List, Option, Some, None, refl, ap, arith, cond, length, map, nat_lt}
+use Rattle.std.proofs.Common.{◌≡◌, ◌≤◌, ◌^◌, ◌-◌, ◌||◌, ◌∷◌, [], ◌∙◌, ℕ, Bool, false, not, List}
+use Rattle.std.proofs.Common.{Option, Some, None, refl, ap, arith, cond, length, map, nat_lt}
 use Rattle.std.specs.Prelude.{option_map, unwrap_or, position}
 use Rattle.std.specs.List.{AllZip, AllByRecursion, position_or_len}
 use Rattle.std.proofs.lemmas.Bool.{or_from, cond-true, cond-false, le-ltb, lt-leb}
 use Rattle.std.proofs.lemmas.List.{length-map}
 use Rattle.flat_model.specs.declared.orders.OrderRefusal.TheVariants.{TooManySubs, TooManyEntries, BadRange, BadEntry}
 use Rattle.flat_model.specs.Acts.{calling}
-use Rattle.flat_model.specs.Registry.{first, refused_if, has_bad_range, has_bad_entry, entry_at, size_refusal, range_refusal, entry_refusal, set_refusal}
+use Rattle.flat_model.specs.Registry.{first, refused_if, has_bad_range, has_bad_entry, entry_at, size_refusal, range_refusal, entry_refusal}
+use Rattle.flat_model.specs.Registry.{set_refusal}
 use Rattle.run_script.specs.declared.heads.Head.{Head}
 use Rattle.run_script.specs.declared.heads.Head.TheVariants.{Boxed, Inline, When}
 use Rattle.run_script.specs.declared.items.Item.{Item}

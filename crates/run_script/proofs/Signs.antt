@@ -1,9 +1,13 @@
 -- Texts without a sign: cut at the sign, a text that was joined with it falls into what was joined.
-use Rattle.std.proofs.Common.{◌≡◌, ◌<◌, ◌≤◌, ◌+◌, ◌==◌, ◌&&◌, ◌∷◌, [], ◌++◌, ◌∙◌, ℕ, Bool, true, false, not, List, Some, None, refl, sym, ap, subst, arith, length, drop, reverse, nat_lt, nat_le, cond, inl, inr}
+use Rattle.std.proofs.Common.{◌≡◌, ◌<◌, ◌≤◌, ◌+◌, ◌==◌, ◌&&◌, ◌∷◌, [], ◌++◌, ◌∙◌, ℕ, Bool}
+use Rattle.std.proofs.Common.{true, false, not, List, Some, None, refl, sym, ap, subst, arith, length, drop, reverse, nat_lt, nat_le, cond}
+use Rattle.std.proofs.Common.{inl, inr}
 use Rattle.std.proofs.Common.{◌||◌}
 use Rattle.std.specs.List.{All, AllZip, list_all, position_or_len, before_first, after_first, join_with_byte}
-use Rattle.std.proofs.lemmas.Bool.{and_parts, and_from, not-true, ltb-true, ltb-false, lt-ltb, le-ltb, eqb-true, eq-eqb, cond-true, cond-false, false≢true, cases_Bool}
-use Rattle.std.proofs.lemmas.List.{take_at, drop_at, take_all, length-append, length-reverse, length-take-le, reverse-append, reverse-reverse, append_assoc}
+use Rattle.std.proofs.lemmas.Bool.{and_parts, and_from, not-true, ltb-true, ltb-false, lt-ltb, le-ltb, eqb-true, eq-eqb, cond-true}
+use Rattle.std.proofs.lemmas.Bool.{cond-false, false≢true, cases_Bool}
+use Rattle.std.proofs.lemmas.List.{take_at, drop_at, take_all, length-append, length-reverse, length-take-le, reverse-append}
+use Rattle.std.proofs.lemmas.List.{reverse-reverse, append_assoc}
 use Rattle.std.proofs.lemmas.List.Sums.{AllPass-from_list_all, split_at_first, passes_at_first}
 use Rattle.std.proofs.lemmas.List.Elements.{All-weaker}
 use Rattle.std.proofs.lemmas.List.Splits.{slice_split_at, slice_split_none}

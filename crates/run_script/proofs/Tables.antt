@@ -1,5 +1,6 @@
 -- A text is read as what it names exactly where the table has it so.
-use Rattle.std.proofs.Common.{◌≡◌, ◌⊎◌, ◌<◌, ◌==◌, ◌∷◌, [], ◌∙◌, ℕ, suc, Bool, true, false, List, Some, refl, sym, ap, subst, arith, length, cond, inl, inr, bit_or}
+use Rattle.std.proofs.Common.{◌≡◌, ◌⊎◌, ◌<◌, ◌==◌, ◌∷◌, [], ◌∙◌, ℕ, suc, Bool, true, false, List, Some}
+use Rattle.std.proofs.Common.{refl, sym, ap, subst, arith, length, cond, inl, inr, bit_or}
 use Rattle.std.specs.Prelude.{Contains, fold, bytes_eq, option_and_then}
 use Rattle.std.specs.List.{AllZip, AllByRecursion, join_with_byte}
 use Rattle.std.proofs.lemmas.Option.{option_and_then_some}

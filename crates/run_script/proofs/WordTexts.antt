@@ -1,5 +1,6 @@
 -- A word is read as what its text spells, where its parts keep the rules.
-use Rattle.std.proofs.Common.{◌≡◌, ◌≤◌, ◌+◌, ◌∷◌, [], ◌++◌, ◌∙◌, ℕ, max, Bool, List, Ok, refl, sym, ap, subst, arith, cond, length, map, append_assoc, length-append, inl, inr}
+use Rattle.std.proofs.Common.{◌≡◌, ◌≤◌, ◌+◌, ◌∷◌, [], ◌++◌, ◌∙◌, ℕ, max, Bool, List, Ok, refl, sym, ap}
+use Rattle.std.proofs.Common.{subst, arith, cond, length, map, append_assoc, length-append, inl, inr}
 use Rattle.std.specs.List.{AllZip, AllByRecursion}
 use Rattle.std.proofs.lemmas.Bool.{cases_Bool}
 use Rattle.std.proofs.lemmas.List.{append-nil}

@@ -1,7 +1,8 @@
 -- The grammar of plug-in words, which `docs/formats.md` has: which texts a list of parts has. A number may have zeros
 -- in front, an address has letters of either case, and events and classes come in any order, so a list of parts has
 -- more than one text.
-use Rattle.std.specs.Prelude.{◌≡◌, ℕ, ◌+◌, ◌*◌, ◌^◌, ◌<◌, ◌≤◌, codes, bit_or, List, [], ◌∷◌, ◌++◌, length, fold, Contains, Some}
+use Rattle.std.specs.Prelude.{◌≡◌, ℕ, ◌+◌, ◌*◌, ◌^◌, ◌<◌, ◌≤◌, codes, bit_or, List, [], ◌∷◌, ◌++◌}
+use Rattle.std.specs.Prelude.{length, fold, Contains, Some}
 use Rattle.std.specs.List.{AllZip, join_with_byte}
 use Rattle.flat_model.specs.declared.plugins.Op.{Op}
 use Rattle.flat_model.specs.declared.plugins.Op.TheVariants.{Add, Store}

@@ -1,5 +1,6 @@
 -- The head of a part, and the subscription that a part spells.
-use Rattle.std.specs.Prelude.{ℕ, ◌+◌, ◌-◌, ◌^◌, ◌%◌, ◌≤◌, ◌&&◌, ◌||◌, codes, Bool, true, false, if◌then◌else◌, List, length, take, drop, Option, Some, None, is_some, unwrap_or, Result, Ok, Err, refl}
+use Rattle.std.specs.Prelude.{ℕ, ◌+◌, ◌-◌, ◌^◌, ◌%◌, ◌≤◌, ◌&&◌, ◌||◌, codes, Bool, true, false}
+use Rattle.std.specs.Prelude.{if◌then◌else◌, List, length, take, drop, Option, Some, None, is_some, unwrap_or, Result, Ok, Err, refl}
 use Rattle.std.specs.Str.{bytes_eq}
 use Rattle.flat_model.specs.declared.plugins.KindName.{KindName}
 use Rattle.flat_model.specs.declared.plugins.KindName.TheVariants.{Counts, Hot, Mem, Exec, Classes, Pages, Own}

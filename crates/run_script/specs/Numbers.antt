@@ -1,5 +1,6 @@
 -- Numbers in words: decimal ones of 1 to 20 digits, and hexadecimal ones of 1 to 16 digits of either case.
-use Rattle.std.specs.Prelude.{ℕ, ◌+◌, ◌-◌, ◌*◌, ◌^◌, ◌==◌, ◌&&◌, nat_lt, nat_le, if◌then◌else◌, List, [], ◌∷◌, length, Option, Some, None, option_and_then}
+use Rattle.std.specs.Prelude.{ℕ, ◌+◌, ◌-◌, ◌*◌, ◌^◌, ◌==◌, ◌&&◌, nat_lt, nat_le, if◌then◌else◌, List, []}
+use Rattle.std.specs.Prelude.{◌∷◌, length, Option, Some, None, option_and_then}
 
 -- the value of a digit in a base of 10 or 16
 abbrev pub digit : ℕ → ℕ → Option ℕ

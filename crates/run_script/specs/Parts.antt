@@ -1,5 +1,6 @@
 -- What the parts of a word mean, and the rules that they keep.
-use Rattle.std.specs.Prelude.{ℕ, ◌≤◌, max, bytes_eq, IsTrue, List, [], ◌∷◌, length, map, slice_get, filter_map, Option, Some, None}
+use Rattle.std.specs.Prelude.{ℕ, ◌≤◌, max, bytes_eq, IsTrue, List, [], ◌∷◌, length, map, slice_get, filter_map, Option, Some}
+use Rattle.std.specs.Prelude.{None}
 use Rattle.std.specs.List.{AllByRecursion, IsDistinct}
 use Rattle.flat_model.specs.declared.plugins.Sub.{Sub}
 use Rattle.flat_model.specs.declared.plugins.SetSpec.{SetSpec}

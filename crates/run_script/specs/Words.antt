@@ -1,6 +1,7 @@
 -- What a plug-in word spells: a set, or the first refusal with its column. Parts stand between the signs
 -- `+`, and in a part a head and its items between commas.
-use Rattle.std.specs.Prelude.{ℕ, ◌+◌, ◌≡◌, ◌&&◌, max, nat_le, Bool, if◌then◌else◌, List, [], ◌∷◌, ◌++◌, length, Option, Some, None, Result, Ok, Err}
+use Rattle.std.specs.Prelude.{ℕ, ◌+◌, ◌≡◌, ◌&&◌, max, nat_le, Bool, if◌then◌else◌, List, [], ◌∷◌, ◌++◌}
+use Rattle.std.specs.Prelude.{length, Option, Some, None, Result, Ok, Err}
 use Rattle.flat_model.specs.declared.plugins.SetSpec.{SetSpec}
 use Rattle.flat_model.specs.declared.refusals.Refused.{Refused}
 use Rattle.flat_model.specs.declared.refusals.Refused.TheVariants.{Because, NoMemory}

@@ -3,7 +3,9 @@
 ghost use Rattle.std.specs.Prelude.{◌≡◌, ◌≤◌, IfOk};
 ghost use Rattle.std.specs.Option.{ForSome};
 ghost use Rattle.run_script.specs.Bytes.{colon, tail_len};
-ghost use Rattle.run_script.specs.Heads.{inline_of, inline_head, when_of, when_numbers, when_named, when_tail, when_head, worded_head, head_of, calls_a_box, is_when, plain, kind_events, usual_events, act_of, filter_of, sub_of, entries_of, EntryFits};
+ghost use Rattle.run_script.specs.Heads.{inline_of, inline_head, when_of, when_numbers, when_named, when_tail, when_head, worded_head};
+ghost use Rattle.run_script.specs.Heads.{head_of, calls_a_box, is_when, plain, kind_events, usual_events, act_of, filter_of, sub_of};
+ghost use Rattle.run_script.specs.Heads.{entries_of, EntryFits};
 
 use crate::bytes::{cut, is, tail_len};
 use crate::items::{Items, Span};

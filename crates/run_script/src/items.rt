@@ -1,7 +1,8 @@
 //! The items of a part.
 
 ghost use Rattle.std.specs.Prelude.{◌≡◌, true};
-ghost use Rattle.run_script.specs.Items.{direction, bits_item, rw_item, then_item, address, span_item, pc_item, named_item, item_of, with_item};
+ghost use Rattle.run_script.specs.Items.{direction, bits_item, rw_item, then_item, address, span_item, pc_item, named_item, item_of};
+ghost use Rattle.run_script.specs.Items.{with_item};
 
 use crate::bytes::{cut, is};
 use crate::names::{Names, mask};

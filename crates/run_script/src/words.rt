@@ -3,7 +3,8 @@
 ghost use Rattle.std.specs.Prelude.{◌≡◌, ◌+◌, ◌<◌, ◌≤◌, ◌^◌, List, length, option_map, IfOk, OnOk};
 ghost use Rattle.std.specs.Option.{ForSome};
 ghost use Rattle.run_script.specs.Bytes.{plus, comma, pieces};
-ghost use Rattle.run_script.specs.Words.{placed, with_text, items_from, items_after, with_head, with_room, with_part, parts_from, spelt, drafted, Gives};
+ghost use Rattle.run_script.specs.Words.{placed, with_text, items_from, items_after, with_head, with_room, with_part, parts_from, spelt};
+ghost use Rattle.run_script.specs.Words.{drafted, Gives};
 ghost use Rattle.run_script.specs.Heads.{EntryFits};
 ghost use Rattle.run_script.specs.Grammar.{Part, SpellsWord};
 ghost use Rattle.run_script.specs.Parts.{set_of, KeepsRules};

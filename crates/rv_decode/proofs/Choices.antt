@@ -1,5 +1,6 @@
 -- What follows from the answer of a chain of tests, each against a number.
-use Rattle.std.proofs.Common.{◌≡◌, ℕ, Bool, ◌==◌, if◌then◌else◌, Option, Some, None, ap, ◌∙◌, sym, subst, inl, inr, refl}
+use Rattle.std.proofs.Common.{◌≡◌, ℕ, Bool, ◌==◌, if◌then◌else◌, Option, Some, None, ap, ◌∙◌, sym, subst, inl, inr}
+use Rattle.std.proofs.Common.{refl}
 use Rattle.std.proofs.lemmas.Bool.{cases_eq, eq-eqb, ne_eqb}
 use Rattle.std.specs.Prelude.{option_map, option_and_then}
 

@@ -1,5 +1,6 @@
 -- The table as a relation and as a function are one: each word's instruction is that of its row.
-use Rattle.std.proofs.Common.{◌≡◌, ℕ, ℤ, ◌==◌, if◌then◌else◌, Option, Some, None, refl, ap, ◌∙◌, sym, subst, ◌↔◌}
+use Rattle.std.proofs.Common.{◌≡◌, ℕ, ℤ, ◌==◌, if◌then◌else◌, Option, Some, None, refl, ap, ◌∙◌, sym, subst}
+use Rattle.std.proofs.Common.{◌↔◌}
 use Rattle.std.specs.Prelude.{option_map, option_and_then}
 use Rattle.flat_model.specs.declared.instructions.Ins.{Ins}
 use Rattle.flat_model.specs.declared.instructions.Ins.TheVariants.{Lui, Auipc, Jal, Jalr, Branch, Load, Store, Imm, Reg, Atomic, Fence}

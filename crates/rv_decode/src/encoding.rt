@@ -1,6 +1,7 @@
 //! The word of an instruction, by the forms of the manual: R, I, S, B, U and J.
 
-ghost use Rattle.std.specs.Prelude.{◌≡◌, ◌+◌, ◌*◌, ◌/◌, ◌%◌, ◌^◌, ◌<◌, ◌≤◌, ℕ, ℤ, pos, neg_ℤ, ◌≤ℤ◌, ◌<ℤ◌};
+ghost use Rattle.std.specs.Prelude.{◌≡◌, ◌+◌, ◌*◌, ◌/◌, ◌%◌, ◌^◌, ◌<◌, ◌≤◌, ℕ, ℤ, pos, neg_ℤ};
+ghost use Rattle.std.specs.Prelude.{◌≤ℤ◌, ◌<ℤ◌};
 ghost use Rattle.flat_model.specs.declared.instructions.Ins.{Ins};
 ghost use Rattle.flat_model.specs.Rows.{IsImmediate, MayHaveSource};
 ghost use Rattle.flat_model.specs.Instruction.{Table, IsInRange, decoded, field, signed_at, opcode as opcode_of, funct3 as funct3_of};

@@ -1,6 +1,7 @@
 //! The fields and immediates of a word.
 
-ghost use Rattle.std.specs.Prelude.{◌≡◌, ◌+◌, ◌*◌, ◌^◌, ◌<◌, ◌≤◌, ◌==◌, pos, neg_ℤ, ◌≤ℤ◌, ◌<ℤ◌, ◌%◌};
+ghost use Rattle.std.specs.Prelude.{◌≡◌, ◌+◌, ◌*◌, ◌^◌, ◌<◌, ◌≤◌, ◌==◌, pos, neg_ℤ, ◌≤ℤ◌};
+ghost use Rattle.std.specs.Prelude.{◌<ℤ◌, ◌%◌};
 ghost use Rattle.flat_model.specs.Instruction.{field, flag, signed_at, i_immediate, s_immediate, b_immediate, j_immediate, IsEven};
 ghost use Rattle.flat_model.specs.Instruction.{IsTwelveBits, IsBranchOffset, IsJumpOffset};
 

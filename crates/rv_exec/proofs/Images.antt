@@ -1,5 +1,6 @@
 -- Images of code and data, as the tests make them.
-use Rattle.std.proofs.Common.{◌≡◌, ◌%◌, ◌≤◌, ◌&&◌, ℕ, zero, suc, inl, Bool, true, false, [], ◌∷◌, All, AllPairs, refl, arith}
+use Rattle.std.proofs.Common.{◌≡◌, ◌%◌, ◌≤◌, ◌&&◌, ℕ, zero, suc, inl, Bool, true, false, [], ◌∷◌, All, AllPairs}
+use Rattle.std.proofs.Common.{refl, arith}
 use Rattle.flat_model.specs.Image.{Segment, AreApart, IsImage, end_of}
 
 all_of_two : (P : Segment → Type 0) (s t : Segment) → P s → P t → All P (s ∷ t ∷ [])

@@ -1,5 +1,6 @@
 -- The starts of the harts from the first.
-use Rattle.std.proofs.Common.{◌≡◌, ◌==◌, ℕ, zero, suc, ◌-◌, ◌<◌, ◌≤◌, ◌⊎◌, inl, inr, List, ◌∷◌, length, get_or, Option, Some, None}
+use Rattle.std.proofs.Common.{◌≡◌, ◌==◌, ℕ, zero, suc, ◌-◌, ◌<◌, ◌≤◌, ◌⊎◌, inl, inr, List, ◌∷◌}
+use Rattle.std.proofs.Common.{length, get_or, Option, Some, None}
 use Rattle.std.proofs.Common.{replicate, refl, ◌∙◌, ap, arith}
 use Rattle.std.specs.Prelude.{nat_lt, true, false, if◌then◌else◌}
 use Rattle.std.proofs.Math.Path.{fun_ext}

@@ -1,6 +1,7 @@
 //! The services that ECALL calls; `docs/guest-machine.md` lists them.
 
-ghost use Rattle.std.specs.Prelude.{◌≡◌, ◌<◌, ◌≤◌, ◌+◌, ◌%◌, ◌∷◌, true, false, length, IfOk, IfNone, ◌⊎◌, Some, None};
+ghost use Rattle.std.specs.Prelude.{◌≡◌, ◌<◌, ◌≤◌, ◌+◌, ◌%◌, ◌∷◌, true, false, length, IfOk, IfNone};
+ghost use Rattle.std.specs.Prelude.{◌⊎◌, Some, None};
 ghost use Rattle.std.specs.Prelude.{vec_len, vec_capacity};
 ghost use Rattle.flat_model.specs.declared.limits.TheConstants.{OUTPUT_MOST};
 ghost use Rattle.flat_model.specs.Effect.{gives};

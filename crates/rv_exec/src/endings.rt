@@ -1,6 +1,7 @@
 //! How a step begins and how it ends. A hart's step and its block are counted where the step begins.
 
-ghost use Rattle.std.specs.Prelude.{◌≡◌, ◌<◌, ◌≤◌, ◌+◌, ◌%◌, ◌^◌, ◌==◌, ◌∷◌, [], ◌++◌, true, false, if◌then◌else◌, length, None, Some};
+ghost use Rattle.std.specs.Prelude.{◌≡◌, ◌<◌, ◌≤◌, ◌+◌, ◌%◌, ◌^◌, ◌==◌, ◌∷◌, [], ◌++◌, true};
+ghost use Rattle.std.specs.Prelude.{false, if◌then◌else◌, length, None, Some};
 ghost use Rattle.flat_model.specs.Effect.{following, gives, jumps, branches};
 ghost use Rattle.flat_model.specs.Step.{begun, starts_block, since_after, first_told, start_told, exit_told, as_events};
 ghost use Rattle.rv_exec.specs.Logged.{Logs};

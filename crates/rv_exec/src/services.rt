@@ -1,6 +1,7 @@
 //! What the services keep for all harts.
 
-ghost use Rattle.std.specs.Prelude.{◌≡◌, ◌<◌, ◌≤◌, ◌-◌, ◌∷◌, ◌↔◌, length, replicate, IfOk, OnOk, IsTrue, Some};
+ghost use Rattle.std.specs.Prelude.{◌≡◌, ◌<◌, ◌≤◌, ◌-◌, ◌∷◌, ◌↔◌, length, replicate, IfOk, OnOk, IsTrue};
+ghost use Rattle.std.specs.Prelude.{Some};
 ghost use Rattle.flat_model.specs.World.{start_at, opening_start};
 ghost use Rattle.flat_model.specs.Outcome.{with_start};
 ghost use Rattle.rv_exec.specs.Sharing.{starts_of, AreStarts, AreOpening, HasRoom};

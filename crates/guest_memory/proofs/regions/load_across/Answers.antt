@@ -1,4 +1,5 @@
-use Rattle.std.proofs.Common.{rules, ◌≡◌, ◌≢◌, ◌+◌, ◌^◌, ◌<◌, ◌≤◌, map, false, arith, ◌∙◌, get_or-set_other, get_or-set_same, below_more}
+use Rattle.std.proofs.Common.{rules, ◌≡◌, ◌≢◌, ◌+◌, ◌^◌, ◌<◌, ◌≤◌, map, false, arith, ◌∙◌}
+use Rattle.std.proofs.Common.{get_or-set_other, get_or-set_same, below_more}
 use Rattle.std.proofs.Common.{length-set}
 use Rattle.flat_model.specs.Permission.{span_of, may_byte, Readable}
 use Rattle.flat_model.specs.World.{opening_bytes}

@@ -1,5 +1,6 @@
 -- What was read is what `read_to_end` put behind the bytes that were there, and all that the reader had left where that is within the limit.
-use Rattle.std.proofs.Common.{◌≡◌, ◌≤◌, ◌<◌, ◌+◌, ◌++◌, ℕ, List, Option, Some, None, IfSome, IsTrue, is_some, length, take, drop, ap, sym, ◌∙◌, subst, arith, length-append, length-take}
+use Rattle.std.proofs.Common.{◌≡◌, ◌≤◌, ◌<◌, ◌+◌, ◌++◌, ℕ, List, Option, Some, None, IfSome, IsTrue, is_some}
+use Rattle.std.proofs.Common.{length, take, drop, ap, sym, ◌∙◌, subst, arith, length-append, length-take}
 use Rattle.std.specs.Option.{option_map}
 use Rattle.std.proofs.lemmas.List.{take_all, drop_at}
 use Rattle.outer_io.proofs.real.read_whole.Goals as goal

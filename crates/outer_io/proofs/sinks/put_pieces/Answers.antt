@@ -1,5 +1,6 @@
 use Rattle.std.specs.Option.{option_map}
-use Rattle.std.proofs.Common.{Option, Some, None, [], ◌++◌, refl, Result, MatchResult, Ok, Err, ◌≡◌, ◌+◌, take, ℕ, List, arith, sym, ap, ◌∙◌, subst, append-nil}
+use Rattle.std.proofs.Common.{Option, Some, None, [], ◌++◌, refl, Result, MatchResult, Ok, Err, ◌≡◌, ◌+◌, take, ℕ, List}
+use Rattle.std.proofs.Common.{arith, sym, ap, ◌∙◌, subst, append-nil}
 use Rattle.std.specs.Prelude.{IsErr}
 use Rattle.std.proofs.lemmas.Bool.{false≢true}
 use Rattle.std.proofs.lemmas.List.{take_all}

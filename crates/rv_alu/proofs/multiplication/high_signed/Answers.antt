@@ -1,5 +1,6 @@
 -- Both factors go into 128 bits as they are, and so does their product.
-use Rattle.std.proofs.Common.{◌≡◌, ◌*ℤ◌, ◌^◌, ◌≤◌, ◌∙◌, ℤ, pos, negsuc, FitsSigned, ap, ap₂, arith, w64, to_z, of_z}
+use Rattle.std.proofs.Common.{◌≡◌, ◌*ℤ◌, ◌^◌, ◌≤◌, ◌∙◌, ℤ, pos, negsuc, FitsSigned, ap, ap₂, arith, w64}
+use Rattle.std.proofs.Common.{to_z, of_z}
 use Rattle.std.specs.Int.{w128}
 use Rattle.std.specs.Prelude.{unsigned_abs}
 use Rattle.std.proofs.lemmas.Int.{to_z-of_z, fits_signed_mul}

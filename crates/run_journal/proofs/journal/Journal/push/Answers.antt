@@ -2,7 +2,8 @@ use Rattle.std.proofs.Common.{◌≡◌, ◌+◌, refl, sym, ap, subst, ◌∙�
 use Rattle.std.specs.Prelude.{IfSome}
 use Rattle.flat_model.specs.Log.{log, total_steps}
 use Rattle.run_journal.specs.Journal.{IsSmall, joined_turn, recorded}
-use Rattle.run_journal.proofs.Recorded.{steps-bound, total_steps-with_entry, log-recorded, IsJoined-recorded, small-recorded, is_small, alone-recorded}
+use Rattle.run_journal.proofs.Recorded.{steps-bound, total_steps-with_entry, log-recorded, IsJoined-recorded, small-recorded, is_small}
+use Rattle.run_journal.proofs.Recorded.{alone-recorded}
 use Rattle.run_journal.proofs.journal.Journal.push.Goals as goal
 
 pub overflow_add-self : goal.overflow_add-self
