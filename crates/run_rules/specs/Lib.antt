@@ -1,0 +1,5 @@
+pub mod Guest
+pub mod Heard
+pub mod Due
+pub mod Legal
+pub mod Laws
