@@ -1,1 +1,5 @@
 pub mod Tails
+pub mod Turns
+pub mod Lines
+pub mod Harts
+pub mod Openings

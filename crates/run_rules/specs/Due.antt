@@ -2,9 +2,9 @@
 -- place. A line belongs to the first Turn at whose end the total of steps is at least its moment, and its place is directly
 -- behind that Turn and the earlier lines that stand there; lines of moment 0 have theirs directly behind the installs. At its
 -- place a line is judged, once: it stands there where the registry allows its order, and else it stands nowhere.
-use Rattle.std.specs.Prelude.{ℕ, ◌+◌, ◌-◌, ◌==◌, not, nat_lt, nat_le, Bool, true, false, if◌then◌else◌, List, [], ◌∷◌}
-use Rattle.std.specs.Prelude.{take, drop, position, slice_get, Option, option_map, is_some}
-use Rattle.std.specs.Option.{option_or, option_and_then, option_map_or}
+use Rattle.std.specs.Prelude.{ℕ, ◌+◌, ◌==◌, ◌&&◌, not, nat_lt, nat_le, Bool, true, false, if◌then◌else◌, List, [], ◌∷◌, find}
+use Rattle.std.specs.Prelude.{slice_get, Option, option_map, is_some}
+use Rattle.std.specs.Option.{option_or, option_map_or}
 use Rattle.std.specs.List.{count_by}
 use Rattle.flat_model.specs.declared.journals.Item.{Item}
 use Rattle.flat_model.specs.declared.journals.Item.TheVariants.{Step, Ordered, GaveBack, Left, Told, Got, Took}
@@ -90,28 +90,34 @@ next_line run (Told party number ∷ past) = come run past
 next_line run (Got hart number ∷ past) = next_line run past
 next_line run (Took party number ∷ past) = next_line run past
 
--- the lines that are judged at the log's end
-abbrev pub judged : Run → List Item → List Timed
-judged run past = take (come run past - next_line run past) (drop (next_line run past) run.plan.script)
+-- a line with its number
+pub record Line : Type 0 where
+  pub number : ℕ
+  pub timed : Timed
 
--- how many of them the registry refuses before the first that it allows, if it allows one
-abbrev pub refused_first : Run → List Item → Option ℕ
-refused_first run past = position (λ t. allowed (plugins run past) t.order) (judged run past)
+unfoldable pub numbered : ℕ → List Timed → List Line
+numbered n [] = []
+numbered n (t ∷ ts) = record { number = n; timed = t } ∷ numbered (n + 1) ts
 
--- a line of the script as an item of the log
-abbrev pub line_item : ℕ → List Item → Timed → Item
-line_item line past t = Ordered (Script line (line_party past)) t.order
+-- whether a line is judged at the log's end: its moment has come, and it wasn't judged before
+abbrev pub is_due : Run → List Item → Line → Bool
+is_due run past l = nat_le (next_line run past) l.number && nat_le l.timed.when (total_steps past)
+
+-- and whether it stands there
+abbrev pub must_stand : Run → List Item → Line → Bool
+must_stand run past l = is_due run past l && allowed (plugins run past) l.timed.order
 
 -- the line that must stand next, if one must
-abbrev pub owed_line : Run → List Item → Option ℕ
-owed_line run past = option_map (λ n. next_line run past + n) (refused_first run past)
+abbrev pub owed_line : Run → List Item → Option Line
+owed_line run past = find (must_stand run past) (numbered 0 run.plan.script)
 
-abbrev pub owed_item : Run → List Item → Option Item
-owed_item run past = option_and_then (λ line. option_map (line_item line past) (slice_get run.plan.script line)) (owed_line run past)
+-- as an item of the log
+abbrev pub line_item : List Item → Line → Item
+line_item past l = Ordered (Script l.number (line_party past)) l.timed.order
 
 -- what the plan wants next: nothing else may stand there
 unfoldable pub wanted : Run → List Item → Option Item
-wanted run past = option_or (missing_install run past) (owed_item run past)
+wanted run past = option_or (missing_install run past) (option_map (line_item past) (owed_line run past))
 
 -- a line stands fewer than 512 steps past its moment
 abbrev pub in_time : Run → ℕ → List Item → Bool

@@ -1,10 +1,20 @@
 -- What holds of the rules of journals, for those who keep a log that goes on.
-use Rattle.std.specs.Prelude.{◌≡◌, ℕ, ◌==◌, Bool, false, List, [], ◌∷◌, ◌++◌}
+use Rattle.std.specs.Prelude.{◌≡◌, ℕ, ◌+◌, ◌==◌, ◌<◌, ◌≤◌, Bool, true, false, List, [], ◌∷◌, ◌++◌, take, Some, None, if◌then◌else◌}
+use Rattle.std.specs.List.Sorted.{IsNonDecreasingBy}
 use Rattle.flat_model.specs.declared.plugins.SetSpec.{SetSpec}
 use Rattle.flat_model.specs.declared.journals.Item.{Item}
 use Rattle.flat_model.specs.declared.journals.Item.TheVariants.{Step, Ordered, GaveBack, Left, Told, Got, Took}
+use Rattle.flat_model.specs.declared.limits.TheConstants.{BLOCK_WORDS}
+use Rattle.flat_model.specs.declared.journals.Mode.{Mode}
+use Rattle.flat_model.specs.declared.journals.Order.{Order}
+use Rattle.flat_model.specs.declared.journals.Order.TheVariants.{Install, Register, Reset, Uninstall}
+use Rattle.flat_model.specs.Log.{steps, total_steps}
+use Rattle.flat_model.specs.World.{Machine, Start}
+use Rattle.flat_model.specs.Worlds.{world, hart_of}
 use Rattle.run_rules.specs.Guest.{Run}
 use Rattle.run_rules.specs.Heard.{progress}
+use Rattle.run_rules.specs.Due.{Line, owed_line, is_start, start_orders, missing_install}
+use Rattle.run_rules.specs.Legal.{Legal, is_there, owes_any, asks_nothing, passes_nothing_by, runs}
 
 -- whether an item is a step of hart h
 abbrev pub steps_by : ℕ → Item → Bool
@@ -25,3 +35,59 @@ NoneSteps h (x ∷ xs) = (steps_by h x ≡ false) × NoneSteps h xs
 abbrev pub HearsByStepsAlone : Type 0
 HearsByStepsAlone = (run : Run) (spec : SetSpec) (plugin set h : ℕ) (more past : List Item)
     → NoneSteps h more → progress run spec plugin set h (more ++ past) ≡ progress run spec plugin set h past
+
+-- A Turn of up to 512 steps after a legal log that passes nothing by keeps the rules: hart h is there, owes no Back and asks nothing, and runs
+-- before each of the steps.
+pub record MayTurn (run : Run) (h n : ℕ) (past : List Item) : Type 0 where
+  pub legal : Legal run past
+  pub is_there : is_there run h past ≡ true
+  pub owes_none : owes_any run h past ≡ false
+  pub asks_nothing : asks_nothing run h past ≡ true
+  pub passes_nothing_by : passes_nothing_by run past ≡ true
+  pub runs : (k : ℕ) → k < n → runs run h (steps h k past) ≡ true
+
+abbrev pub TurnsAreLegal : Type 0
+TurnsAreLegal = (run : Run) (h n : ℕ) (past : List Item) → n ≤ BLOCK_WORDS → MayTurn run h n past → Legal run (steps h n past)
+
+-- a line of the script that falls due in a Turn of up to 512 steps, which began where nothing was passed by, stands in time behind it
+abbrev pub LinesAreInTime : Type 0
+LinesAreInTime = (run : Run) (h n : ℕ) (past : List Item) (l : Line)
+    → IsNonDecreasingBy (λ t. t.when) run.plan.script → n ≤ BLOCK_WORDS → passes_nothing_by run past ≡ true
+    → owed_line run (steps h n past) ≡ Some l → total_steps (steps h n past) < l.timed.when + BLOCK_WORDS
+
+-- a hart that has its start is moved on by its own steps alone: other items change neither it nor its start
+pub record IsUntouched (m : Machine) (mode : Mode) (h : ℕ) (more past : List Item) : Type 0 where
+  pub hart : hart_of m mode (more ++ past) h ≡ hart_of m mode past h
+  pub start : (world m mode (more ++ past)).shared.starts h ≡ (world m mode past).shared.starts h
+
+abbrev pub HartsMoveByTheirSteps : Type 0
+HartsMoveByTheirSteps = (m : Machine) (mode : Mode) (h : ℕ) (more past : List Item) (start : Start)
+    → NoneSteps h more → (world m mode past).shared.starts h ≡ Some start → IsUntouched m mode h more past
+
+-- The installs of the start.
+
+-- the sets that a log's start orders install, in order
+abbrev pub installed_by : Order → List SetSpec
+installed_by (Install spec) = spec ∷ []
+installed_by (Register plugin spec) = []
+installed_by (Reset plugin) = []
+installed_by (Uninstall plugin) = []
+
+unfoldable pub opening_sets : List Item → List SetSpec
+opening_sets [] = []
+opening_sets (Step hart ∷ past) = opening_sets past
+opening_sets (Ordered origin order ∷ past) = if is_start origin then opening_sets past ++ installed_by order else opening_sets past
+opening_sets (GaveBack hart plugin ∷ past) = opening_sets past
+opening_sets (Left hart ∷ past) = opening_sets past
+opening_sets (Told party plugin ∷ past) = opening_sets past
+opening_sets (Got hart plugin ∷ past) = opening_sets past
+opening_sets (Took party plugin ∷ past) = opening_sets past
+
+-- a legal log opens with the plan's first installs, in order
+abbrev pub OpensAsPlanned : Type 0
+OpensAsPlanned = (run : Run) (past : List Item) → Legal run past → opening_sets past ≡ take (start_orders past) run.plan.installs
+
+-- and keeps them as it goes on, once none is missing
+abbrev pub KeepsItsOpening : Type 0
+KeepsItsOpening = (run : Run) (more past : List Item) → Legal run (more ++ past) → missing_install run past ≡ None
+    → (missing_install run (more ++ past) ≡ None) × (opening_sets (more ++ past) ≡ opening_sets past)

@@ -1,11 +1,34 @@
-//! The rules of journals: what a set has heard on a hart in a log, what the plan of a run wants next, and which logs are
-//! legal and whole. The definitions stand in `specs/`; here is what holds of them.
+//! The rules of journals: what a set has heard on a hart in a log, what the plan of a run wants next, which logs are legal and
+//! whole, and where the boxes of a set are. The definitions stand in `specs/`; here is what holds of them.
 #![tactic(auto)]
 
-ghost use Rattle.run_rules.specs.Laws.{HearsByStepsAlone};
+ghost use Rattle.run_rules.specs.Laws.{HearsByStepsAlone, HartsMoveByTheirSteps, TurnsAreLegal, LinesAreInTime, OpensAsPlanned};
+ghost use Rattle.run_rules.specs.Laws.{KeepsItsOpening};
 
-/// No item but a step of a hart changes what a set has heard on it.
+/// No item but a step of a hart changes what a set has made of the hart's events.
 #[tactic(auto, using(crate::proofs::Tails::hears_by_steps_alone))]
 pub fn hears_by_steps_alone()
     ensures law { HearsByStepsAlone }
+{}
+
+/// A hart that has its start is moved on by its own steps alone.
+pub fn harts_move_by_their_steps()
+    ensures law { HartsMoveByTheirSteps }
+{}
+
+/// A Turn of up to 512 steps, begun where nothing is passed by and no ask waits, keeps the rules.
+pub fn turns_are_legal()
+    ensures law { TurnsAreLegal }
+{}
+
+/// A line of the script that falls due in such a Turn stands in time behind it.
+#[tactic(auto, using(crate::proofs::Lines::lines_are_in_time))]
+pub fn lines_are_in_time()
+    ensures law { LinesAreInTime }
+{}
+
+/// A legal log opens with the plan's installs, in order, and keeps them as it goes on.
+pub fn opens_as_planned()
+    ensures planned { OpensAsPlanned }
+    ensures kept { KeepsItsOpening }
 {}
