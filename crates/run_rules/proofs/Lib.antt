@@ -3,3 +3,5 @@ pub mod Turns
 pub mod Lines
 pub mod Harts
 pub mod Openings
+pub mod Growing
+pub mod Journals

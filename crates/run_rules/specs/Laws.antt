@@ -1,5 +1,5 @@
 -- What holds of the rules of journals, for those who keep a log that goes on.
-use Rattle.std.specs.Prelude.{◌≡◌, ℕ, ◌+◌, ◌==◌, ◌<◌, ◌≤◌, Bool, true, false, List, [], ◌∷◌, ◌++◌, take, Some, None, if◌then◌else◌}
+use Rattle.std.specs.Prelude.{◌≡◌, ℕ, ◌+◌, ◌==◌, ◌<◌, ◌≤◌, Bool, true, false, List, [], ◌∷◌, ◌++◌, take, Some, None, if◌then◌else◌, length}
 use Rattle.std.specs.List.Sorted.{IsNonDecreasingBy}
 use Rattle.flat_model.specs.declared.plugins.SetSpec.{SetSpec}
 use Rattle.flat_model.specs.declared.journals.Item.{Item}
@@ -8,11 +8,13 @@ use Rattle.flat_model.specs.declared.limits.TheConstants.{BLOCK_WORDS}
 use Rattle.flat_model.specs.declared.journals.Mode.{Mode}
 use Rattle.flat_model.specs.declared.journals.Order.{Order}
 use Rattle.flat_model.specs.declared.journals.Order.TheVariants.{Install, Register, Reset, Uninstall}
-use Rattle.flat_model.specs.Log.{steps, total_steps}
+use Rattle.flat_model.specs.Log.{steps, total_steps, journaled}
+use Rattle.flat_model.specs.Plan.{Planned}
 use Rattle.flat_model.specs.World.{Machine, Start}
 use Rattle.flat_model.specs.Worlds.{world, hart_of}
-use Rattle.run_rules.specs.Guest.{Run}
-use Rattle.run_rules.specs.Heard.{progress}
+use Rattle.flat_model.specs.Registry.{sets_of}
+use Rattle.run_rules.specs.Guest.{Run, run_of, plugins}
+use Rattle.run_rules.specs.Heard.{progress, opening_progress}
 use Rattle.run_rules.specs.Due.{Line, owed_line, is_start, start_orders, missing_install}
 use Rattle.run_rules.specs.Legal.{Legal, is_there, owes_any, asks_nothing, passes_nothing_by, runs}
 
@@ -91,3 +93,23 @@ OpensAsPlanned = (run : Run) (past : List Item) → Legal run past → opening_s
 abbrev pub KeepsItsOpening : Type 0
 KeepsItsOpening = (run : Run) (more past : List Item) → Legal run (more ++ past) → missing_install run past ≡ None
     → (missing_install run (more ++ past) ≡ None) × (opening_sets (more ++ past) ≡ opening_sets past)
+
+-- Sets that are registered later.
+
+-- a set that a log hasn't registered has made nothing of any event
+abbrev pub LaterSetsHearNothing : Type 0
+LaterSetsHearNothing = (run : Run) (spec : SetSpec) (plugin set h : ℕ) (past : List Item)
+    → length (sets_of (plugins run past) plugin) ≤ set → progress run spec plugin set h past ≡ opening_progress spec
+
+-- The log of the shared state, and its journal.
+
+-- what the rules make of a state's log is what they make of its journal, in which no Got and no Took stand
+pub record IsOfItsJournal (m : Machine) (mode : Mode) (plan : Planned) (past : List Item) : Type 0 where
+  pub world : world m mode (journaled past) ≡ world m mode past
+  pub plugins : plugins (run_of m mode plan) (journaled past) ≡ plugins (run_of m mode plan) past
+  pub progress : (spec : SetSpec) (plugin set h : ℕ)
+      → progress (run_of m mode plan) spec plugin set h (journaled past) ≡ progress (run_of m mode plan) spec plugin set h past
+  pub legal : Legal (run_of m mode plan) past → Legal (run_of m mode plan) (journaled past)
+
+abbrev pub LogsAreOfTheirJournals : Type 0
+LogsAreOfTheirJournals = (m : Machine) (mode : Mode) (plan : Planned) (past : List Item) → IsOfItsJournal m mode plan past

@@ -3,7 +3,7 @@
 #![tactic(auto)]
 
 ghost use Rattle.run_rules.specs.Laws.{HearsByStepsAlone, HartsMoveByTheirSteps, TurnsAreLegal, LinesAreInTime, OpensAsPlanned};
-ghost use Rattle.run_rules.specs.Laws.{KeepsItsOpening};
+ghost use Rattle.run_rules.specs.Laws.{KeepsItsOpening, LaterSetsHearNothing, LogsAreOfTheirJournals};
 
 /// No item but a step of a hart changes what a set has made of the hart's events.
 #[tactic(auto, using(crate::proofs::Tails::hears_by_steps_alone))]
@@ -31,4 +31,15 @@ pub fn lines_are_in_time()
 pub fn opens_as_planned()
     ensures planned { OpensAsPlanned }
     ensures kept { KeepsItsOpening }
+{}
+
+/// A set that hasn't been registered yet has made nothing of any event.
+#[tactic(auto, using(crate::proofs::Growing::later_sets_hear_nothing))]
+pub fn later_sets_hear_nothing()
+    ensures law { LaterSetsHearNothing }
+{}
+
+/// What the rules make of the shared state's log is what they make of its journal.
+pub fn logs_are_of_their_journals()
+    ensures law { LogsAreOfTheirJournals }
 {}
