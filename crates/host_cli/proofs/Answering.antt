@@ -7,22 +7,25 @@ use Rattle.host_cli.specs.declared.refusals.Refusal.{Refusal}
 use Rattle.host_cli.specs.declared.refusals.Refusal.TheVariants.{Usage, CannotRead, TooLong, Image, OutOfMemory}
 use Rattle.host_cli.specs.Sinks.{Around, IsSilent}
 use Rattle.host_cli.specs.Words.{verb_of, file_of}
-use Rattle.host_cli.specs.Refusals.{Given, HasCause, FileCause, CannotBeRead, IsTooLong}
+use Rattle.host_cli.specs.Refusals.{Given, IsCounted, HasCause, FileCause, CannotBeRead, IsTooLong}
 use Rattle.host_cli.specs.Answers.{Answers, refused, PutRefusal}
 
--- a read meets at most one fault
-counted_missing : (told : Bool) (held : Option (List ℕ)) (before now : ℕ) → CannotBeRead told held before now → IsFaultless before now ⊎ Faulted before now
-counted_missing told held before now (inl fault) = inr fault
-counted_missing told held before now (inr missing) = inl missing.2
+-- the file that the words name was read, with at most one fault
+counted_missing : (given : Given) → IsSome (verb_of given.words)
+    → CannotBeRead given.told given.held given.faults_before given.faults_now → IsCounted given
+counted_missing given asked (inl fault) = inr (asked, fault)
+counted_missing given asked (inr missing) = inl missing.2
 
-counted_long : (told : Bool) (held : Option (List ℕ)) (before now : ℕ) → IsTooLong told held before now → IsFaultless before now ⊎ Faulted before now
-counted_long true held before now long = inl long.1
-counted_long false held before now fault = inr fault
+counted_long : (A : Type 0) (told : Bool) (held : Option (List ℕ)) (before now : ℕ) → A → IsTooLong told held before now
+    → IsFaultless before now ⊎ (A × Faulted before now)
+counted_long A true held before now asked long = inl long.1
+counted_long A false held before now asked fault = inr (asked, fault)
 
-counted : (given : Given) (refusal : Refusal) → HasCause refusal given → IsFaultless given.faults_before given.faults_now ⊎ Faulted given.faults_before given.faults_now
+counted : (given : Given) (refusal : Refusal) → HasCause refusal given → IsCounted given
 counted given Usage cause = inl cause.1
-counted given CannotRead cause = counted_missing given.told given.held given.faults_before given.faults_now cause.1
-counted given TooLong cause = counted_long given.told given.held given.faults_before given.faults_now cause.1
+counted given CannotRead cause = counted_missing given cause.0 cause.1
+counted given TooLong cause =
+    counted_long (IsSome (verb_of given.words)) given.told given.held given.faults_before given.faults_now cause.0 cause.1
 counted given (Image r) cause = inl cause.1.1
 counted given OutOfMemory cause = cause
 

@@ -56,11 +56,17 @@ FileCause OutOfMemory told held before now = IsFaultless before now
 abbrev pub IsAsked : List (List ℕ) → Verb → Type 0
 IsAsked words verb = verb_of words ≡ Some verb
 
+-- a call meets at most one fault of a read, and none where its words aren't in the grammar, since then no file is read
+abbrev pub IsCounted : Given → Type 0
+IsCounted given =
+    IsFaultless given.faults_before given.faults_now
+    ⊎ (IsSome (verb_of given.words) × Faulted given.faults_before given.faults_now)
+
 -- why a call has no image: words that ask for nothing, or the file that they name, which is read only where they are in the
 -- grammar. Want of memory may come in place of each of the others
 abbrev pub HasCause : Refusal → Given → Type 0
 HasCause Usage given = (verb_of given.words ≡ None) × IsFaultless given.faults_before given.faults_now
-HasCause OutOfMemory given = IsFaultless given.faults_before given.faults_now ⊎ Faulted given.faults_before given.faults_now
+HasCause OutOfMemory given = IsCounted given
 HasCause refusal given = IsSome (verb_of given.words) × FileCause refusal given.told given.held given.faults_before given.faults_now
 
 abbrev pub refusal_status : Refusal → ℕ
