@@ -12,6 +12,4 @@ mod caching;
 mod finding;
 mod kept_blocks;
 mod laws;
-#[cfg(test)]
-mod tests;
 mod walks;

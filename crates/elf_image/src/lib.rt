@@ -14,5 +14,3 @@ mod laws;
 mod loading;
 mod refusals;
 mod rules;
-#[cfg(test)]
-mod tests;

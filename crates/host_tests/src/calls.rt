@@ -1,8 +1,9 @@
 //! Calls of the program on one file.
 
-ghost use Rattle.std.specs.Prelude.{◌≡◌, None, All, IfOk, vec_len};
+ghost use Rattle.std.specs.Prelude.{◌≡◌, None, All};
 
 use crate::boxes::Listener;
+use crate::files::{CODE, EXIT_0, elf};
 use flat_model::Event;
 use host_cli::{OneEnded, host_one};
 use outer_io::{MemFiles, MemSink};
@@ -49,20 +50,40 @@ pub struct Finished {
     pub events: Vec<Event>,
 }
 
-/// Calls the program with these words, files, sinks and boxes. Its contract says of the boxes alone that they are back.
-pub fn called_with<W: Watcher>(
+/// What a call with boxes answers, and what it leaves.
+#[derive(Drop)]
+pub struct Boxed<W: Drop> {
+    pub ended: OneEnded<W>,
+    pub out: MemSink,
+    pub report: MemSink,
+}
+
+/// Calls the program with these words, files, sinks and boxes.
+fn called_with<W: Watcher>(
     alloc: Global,
     words: &[&str],
     files: &mut MemFiles,
-    out: &mut MemSink,
-    report: &mut MemSink,
+    out: MemSink,
+    report: MemSink,
     boxes: Vec<W>,
-) -> Result<OneEnded<W>, AllocError>
+) -> Result<Boxed<W>, AllocError>
     requires blank { All (λ w. W.kind_of w ≡ None) boxes.items }
-    ensures back { IfOk result (λ ended. vec_len ended.watchers ≡ vec_len boxes) }
 {
+    let mut out = out;
+    let mut report = report;
     let words = texts(alloc, words)?;
-    Ok(host_one(alloc, &words, files, out, report, boxes))
+    let ended = host_one(alloc, &words, files, &mut out, &mut report, boxes);
+    Ok(Boxed { ended, out, report })
+}
+
+/// What `run F` answers and leaves for three words that exit with 0, with these boxes.
+pub fn exited_with<W: Watcher>(alloc: Global, boxes: Vec<W>) -> Result<Boxed<W>, AllocError>
+    requires blank { All (λ w. W.kind_of w ≡ None) boxes.items }
+{
+    let mut files = only_file(alloc, &elf(alloc, CODE, &EXIT_0)?);
+    let out = good_sink(alloc);
+    let report = good_sink(alloc);
+    called_with(alloc, &["run", "F"], &mut files, out, report, boxes)
 }
 
 /// Calls the program with these words, files and sinks.
@@ -73,23 +94,23 @@ pub fn called(
     out: MemSink,
     report: MemSink,
 ) -> Result<Finished, Fail> {
-    let mut out = out;
-    let mut report = report;
     let mut boxes = Vec::new(alloc);
     boxes.push(Listener::blank(alloc))?;
-    let ended = called_with(alloc, words, files, &mut out, &mut report, boxes)?;
+    let Boxed { ended, out, report } = called_with(alloc, words, files, out, report, boxes)?;
     let OneEnded {
         status,
         mut watchers,
         ..
     } = ended;
-    let Listener { events, .. } = watchers.remove(0);
-    Ok(Finished {
-        status,
-        out,
-        report,
-        events,
-    })
+    match watchers.pop() {
+        Some(Listener { events, .. }) => Ok(Finished {
+            status,
+            out,
+            report,
+            events,
+        }),
+        None => Err("no box is handed back".into()),
+    }
 }
 
 /// What `run F` answers and leaves for a file, with good sinks.

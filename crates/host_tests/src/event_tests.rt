@@ -1,4 +1,4 @@
-use crate::calls::{called_with, good_sink, only_file, ran};
+use crate::calls::{exited_with, ran};
 use crate::files::{CODE, ECALL, EXIT_0, elf, with_data};
 use flat_model::{Ending, Event, Row, What};
 use std::test::Fail;
@@ -85,14 +85,11 @@ fn an_atomic_access_is_one_event(rt: HostRuntime) -> Result<(), Fail> {
 #[test]
 fn the_recorder_tallies_the_instructions(rt: HostRuntime) -> Result<(), Fail> {
     let alloc = rt.alloc();
-    let words = ["run", "F"];
-    let mut files = only_file(alloc, &elf(alloc, CODE, &EXIT_0)?);
-    let mut out = good_sink(alloc);
-    let mut report = good_sink(alloc);
     let mut boxes = Vec::new(alloc);
     boxes.push(Recorder::blank(alloc))?;
-    let ended = called_with(alloc, &words, &mut files, &mut out, &mut report, boxes)?;
-    let tally = ended.watchers[0].tally(alloc)?;
+    let run = exited_with(alloc, boxes)?;
+    let recorder = run.ended.watchers.first().ok_or("no box is handed back")?;
+    let tally = recorder.tally(alloc)?;
     let row = |key: u64, a: u64, b: u64| Row {
         key,
         a,
@@ -112,33 +109,25 @@ fn the_recorder_tallies_the_instructions(rt: HostRuntime) -> Result<(), Fail> {
 #[test]
 fn a_box_without_memory_ends_the_run(rt: HostRuntime) -> Result<(), Fail> {
     let alloc = rt.alloc();
-    let words = ["run", "F"];
-    let mut files = only_file(alloc, &elf(alloc, CODE, &EXIT_0)?);
-    let mut out = good_sink(alloc);
-    let mut report = good_sink(alloc);
     let mut boxes = Vec::new(alloc);
     boxes.push(Refuser::blank(alloc, 3))?;
-    let ended = called_with(alloc, &words, &mut files, &mut out, &mut report, boxes)?;
-    assert_eq!(rt; ended.status, 7);
-    assert!(rt; ended.hart.is_none());
-    assert_eq!(rt; report.bytes(), b"tcg_host: out of memory\n".as_slice());
+    let run = exited_with(alloc, boxes)?;
+    assert_eq!(rt; run.ended.status, 7);
+    assert!(rt; run.ended.hart.is_none());
+    assert_eq!(rt; run.report.bytes(), b"tcg_host: out of memory\n".as_slice());
     Ok(())
 }
 
 #[test]
 fn a_run_without_boxes_is_reported_as_any_other(rt: HostRuntime) -> Result<(), Fail> {
     let alloc = rt.alloc();
-    let words = ["run", "F"];
-    let mut files = only_file(alloc, &elf(alloc, CODE, &EXIT_0)?);
-    let mut out = good_sink(alloc);
-    let mut report = good_sink(alloc);
     let none: Vec<Recorder> = Vec::new(alloc);
-    let ended = called_with(alloc, &words, &mut files, &mut out, &mut report, none)?;
-    assert_eq!(rt; ended.status, 0);
-    assert_eq!(rt; ended.watchers.len(), 0);
-    assert_eq!(rt; out.piece_lengths().len(), 0);
+    let run = exited_with(alloc, none)?;
+    assert_eq!(rt; run.ended.status, 0);
+    assert_eq!(rt; run.ended.watchers.len(), 0);
+    assert_eq!(rt; run.out.piece_lengths().len(), 0);
     assert_eq!(rt;
-        report.bytes(),
+        run.report.bytes(),
         b"hart 0 steps 3 blocks 1 exit 0\n".as_slice()
     );
     Ok(())

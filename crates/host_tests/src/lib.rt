@@ -1,6 +1,9 @@
-//! Whole calls over files and sinks in memory, and steps of harts, on small images made here: tests alone.
+//! Whole calls over files and sinks in memory, and images, blocks, texts and steps of harts, on small files made here:
+//! tests alone.
 #![tactic(auto)]
 
+#[cfg(test)]
+mod block_tests;
 #[cfg(test)]
 mod boxes;
 #[cfg(test)]
@@ -12,6 +15,8 @@ mod files;
 #[cfg(test)]
 mod guests;
 #[cfg(test)]
+mod image_tests;
+#[cfg(test)]
 mod listing_tests;
 #[cfg(test)]
 mod output_tests;
@@ -21,3 +26,5 @@ mod refusal_tests;
 mod run_tests;
 #[cfg(test)]
 mod step_tests;
+#[cfg(test)]
+mod text_tests;

@@ -33,17 +33,42 @@ fn are_zeros(bytes: &[u8], count: usize) -> bool {
     bytes.len() == count && bytes.iter().all(|byte| *byte == 0)
 }
 
+// Writes 5,000 bytes from the base of its stack, of which one call takes 4,096, and exits with the answer.
+const FROM_STACK: [u32; 9] = [
+    0x0400_0893,
+    0x0010_0513,
+    0x0001_05B7,
+    0x40B1_05B3,
+    0x0000_1637,
+    0x3886_0613,
+    ECALL,
+    0x05D0_0893,
+    ECALL,
+];
+
 #[test]
 fn what_the_guest_writes_is_put_out(rt: HostRuntime) -> Result<(), Fail> {
     let alloc = rt.alloc();
-    let run = ran(alloc, &with_data(alloc, &TWO_PIECES)?)?;
-    assert_eq!(rt; run.status, 0);
-    assert_eq!(rt;
-        run.report.bytes(),
-        b"hart 0 steps 10 blocks 3 exit 0\n".as_slice()
-    );
-    assert!(rt; are_zeros(run.out.bytes(), 8192));
-    assert_eq!(rt; run.out.piece_lengths(), [4096, 4096].as_slice());
+    for (words, status, line, pieces) in [
+        (
+            TWO_PIECES.as_slice(),
+            0,
+            "hart 0 steps 10 blocks 3 exit 0\n",
+            [4096, 4096].as_slice(),
+        ),
+        (
+            FROM_STACK.as_slice(),
+            1,
+            "hart 0 steps 9 blocks 2 exit 4096\n",
+            [4096].as_slice(),
+        ),
+    ] {
+        let run = ran(alloc, &with_data(alloc, words)?)?;
+        assert_eq!(rt; run.status, status);
+        assert_eq!(rt; run.report.bytes(), line.as_bytes());
+        assert_eq!(rt; run.out.piece_lengths(), pieces);
+        assert!(rt; run.out.bytes().iter().all(|byte| *byte == 0));
+    }
     Ok(())
 }
 

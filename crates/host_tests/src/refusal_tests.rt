@@ -1,38 +1,29 @@
-use crate::calls::{assert_run, called, failing_sink, good_sink, only_file};
+use crate::calls::{called, failing_sink, good_sink, only_file};
 use crate::files::{CODE, EXIT_0, elf};
 use outer_io::MemFiles;
 use std::test::Fail;
 
-#[test]
-fn a_file_that_is_no_program_is_refused(rt: HostRuntime) -> Result<(), Fail> {
-    let alloc = rt.alloc();
-    assert_run(
-        &rt,
-        alloc,
-        b"",
-        4,
-        "tcg_host: image: file too short: need 64, got 0\n",
-    )?;
-    assert_run(
-        &rt,
-        alloc,
-        b"#!/bin/sh\necho this is a text file and no ELF file, though it is long enough\n",
-        4,
-        "tcg_host: image: not ELF\n",
-    )
-}
+const TEXT: &[u8] =
+    b"#!/bin/sh\necho this is a text file and no ELF file, though it is long enough\n";
 
 #[test]
 fn each_refusal_has_its_status_and_line(rt: HostRuntime) -> Result<(), Fail> {
     let alloc = rt.alloc();
     let mut files = only_file(alloc, &elf(alloc, CODE, &EXIT_0)?);
-    let _ = files.add("BAD", b"no ELF file");
+    let _ = files.add("EMPTY", b"");
+    let _ = files.add("BAD", TEXT);
     for (words, status, line) in [
         (
             ["run", "none"].as_slice(),
             3,
             "tcg_host: cannot read none\n",
         ),
+        (
+            ["run", "EMPTY"].as_slice(),
+            4,
+            "tcg_host: image: file too short: need 64, got 0\n",
+        ),
+        (["run", "BAD"].as_slice(), 4, "tcg_host: image: not ELF\n"),
         (["run"].as_slice(), 2, "tcg_host: not built\n"),
         (["run", "F", "F"].as_slice(), 2, "tcg_host: not built\n"),
         (["run", "-F"].as_slice(), 2, "tcg_host: not built\n"),

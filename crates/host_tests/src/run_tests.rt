@@ -105,14 +105,61 @@ fn blocks_end_at_512_words_pages_branches_and_jumps(rt: HostRuntime) -> Result<(
 }
 
 #[test]
-fn an_atomic_at_an_address_that_is_not_aligned_is_a_fault(rt: HostRuntime) -> Result<(), Fail> {
+fn misaligned_atomics_and_calls_of_services_are_reported(rt: HostRuntime) -> Result<(), Fail> {
     let alloc = rt.alloc();
-    let words = [0x0002_02B7, 0x0022_8293, 0x0072_A32F];
-    assert_run(
-        &rt,
-        alloc,
-        &with_data(alloc, &words)?,
-        8,
-        "hart 0 steps 3 blocks 1 fault atomic at 0x0000000000010008\n",
-    )
+    // What a service answers is the exit code.
+    for (words, status, line) in [
+        // AMOADD.W at 0x20002.
+        (
+            [0x0002_02B7, 0x0022_8293, 0x0072_A32F].as_slice(),
+            8,
+            "hart 0 steps 3 blocks 1 fault atomic at 0x0000000000010008\n",
+        ),
+        // `write` to the file 7.
+        (
+            [0x0400_0893, 0x0070_0513, ECALL, 0x05D0_0893, ECALL].as_slice(),
+            1,
+            "hart 0 steps 5 blocks 2 exit -9\n",
+        ),
+        // Of 2 bytes at 0x20FFF.
+        (
+            [
+                0x0400_0893,
+                0x0010_0513,
+                0x0002_15B7,
+                0xFFF5_8593,
+                0x0020_0613,
+                ECALL,
+                0x05D0_0893,
+                ECALL,
+            ]
+            .as_slice(),
+            1,
+            "hart 0 steps 8 blocks 2 exit -14\n",
+        ),
+        // Of no byte at 0.
+        (
+            [
+                0x0400_0893,
+                0x0020_0513,
+                0x0000_0593,
+                0x0000_0613,
+                ECALL,
+                0x05D0_0893,
+                ECALL,
+            ]
+            .as_slice(),
+            0,
+            "hart 0 steps 7 blocks 2 exit 0\n",
+        ),
+        // The service 1000, which is none.
+        (
+            [0x3E80_0893, ECALL, 0x05D0_0893, ECALL].as_slice(),
+            1,
+            "hart 0 steps 4 blocks 2 exit -38\n",
+        ),
+    ] {
+        assert_run(&rt, alloc, &with_data(alloc, words)?, status, line)?;
+    }
+    Ok(())
 }

@@ -1,31 +1,7 @@
-use crate::files::{CODE, ECALL, elf, nops_and_exit, with_data};
-use crate::guests::steps;
-use block_finder::find;
-use elf_image::load;
-use flat_model::{Ending, Image, Mode, Refused};
-use guest_memory::Memory;
-use rv_exec::{Hart, RawLog, Services};
-use std::alloc::Global;
+use crate::files::{CODE, ECALL, NOP, elf, with_data};
+use crate::guests::{after, alone, image_of};
+use flat_model::{Ending, Mode};
 use std::test::Fail;
-
-// The image of a file.
-fn image_of(alloc: Global, file: &[u8]) -> Result<Image, Fail> {
-    match load(alloc, file) {
-        Ok(image) => Ok(image),
-        Err(Refused::Because(_)) => Err("a refused file".into()),
-        Err(Refused::NoMemory) => Err("no memory".into()),
-    }
-}
-
-#[test]
-fn a_block_has_512_words_at_most(rt: HostRuntime) -> Result<(), Fail> {
-    let alloc = rt.alloc();
-    let file = elf(alloc, CODE, &nops_and_exit(alloc, 513)?)?;
-    let image = image_of(alloc, &file)?;
-    assert_eq!(rt; find(alloc, &image, CODE)?.n, 512);
-    assert_eq!(rt; find(alloc, &image, 0x10800)?.n, 4);
-    Ok(())
-}
 
 // LR and SC of hart 0, which exits with what the SC gives; hart 1 stores a byte beside and exits with 0.
 const RESERVING: [u32; 10] = [
@@ -45,54 +21,14 @@ const RESERVING: [u32; 10] = [
 fn a_store_of_another_hart_ends_a_reservation(rt: HostRuntime) -> Result<(), Fail> {
     let alloc = rt.alloc();
     let image = image_of(alloc, &with_data(alloc, &RESERVING)?)?;
-    // Whether the other hart stores between the LR and the SC, and the first one's exit code.
-    for (between, code) in [(true, 1), (false, 0)] {
-        let mut memory = Memory::new(alloc, &image, 2)?;
-        let mut services = Services::new(alloc, &image, 2, Mode::All)?;
-        let mut raw = RawLog::new(alloc)?;
-        let mut first = Hart::first(&image, 0, 2, Mode::All);
-        let mut second = Hart::first(&image, 1, 2, Mode::All);
-        steps(
-            3,
-            0,
-            &mut first,
-            &image,
-            &mut memory,
-            &mut services,
-            &mut raw,
-        )?;
-        let before = if between { 3 } else { 0 };
-        steps(
-            before,
-            1,
-            &mut second,
-            &image,
-            &mut memory,
-            &mut services,
-            &mut raw,
-        )?;
-        steps(
-            3,
-            0,
-            &mut first,
-            &image,
-            &mut memory,
-            &mut services,
-            &mut raw,
-        )?;
-        steps(
-            6,
-            1,
-            &mut second,
-            &image,
-            &mut memory,
-            &mut services,
-            &mut raw,
-        )?;
-        assert_eq!(rt; first.steps, 6);
-        assert_eq!(rt; first.ending, Some(Ending::Exited(code)));
-        assert_eq!(rt; second.steps, 6);
-        assert_eq!(rt; second.ending, Some(Ending::Exited(0)));
+    // The steps that the other hart makes between the LR and the SC, and the first one's exit code.
+    for (between, code) in [(3, 1), (0, 0)] {
+        let turns = [(0, 3), (1, between), (0, 3), (1, 6)];
+        let pair = after(alloc, &image, 2, Mode::All, &turns)?;
+        assert_eq!(rt; pair.first.steps, 6);
+        assert_eq!(rt; pair.first.ending, Some(Ending::Exited(code)));
+        assert_eq!(rt; pair.second.steps, 6);
+        assert_eq!(rt; pair.second.ending, Some(Ending::Exited(0)));
     }
     Ok(())
 }
@@ -113,56 +49,61 @@ const STARTING: [u32; 11] = [
     ECALL,
 ];
 
+// The first and the third word of that where the hart to be started is number 0 or 2, or its place is no multiple of 4.
+const OF_HART_1: [u32; 2] = [0x0010_0513, 0x0205_8593];
+
+const OF_HART_0: [u32; 2] = [0x0000_0513, 0x0205_8593];
+
+const OF_HART_2: [u32; 2] = [0x0020_0513, 0x0205_8593];
+
+const OFF_BY_TWO: [u32; 2] = [0x0010_0513, 0x0225_8593];
+
 #[test]
-fn a_parked_hart_begins_by_the_start_that_it_is_given(rt: HostRuntime) -> Result<(), Fail> {
+fn a_parked_hart_begins_once_by_the_start_that_it_is_given(rt: HostRuntime) -> Result<(), Fail> {
     let alloc = rt.alloc();
-    let image = image_of(alloc, &elf(alloc, CODE, &STARTING)?)?;
-    // The harts and the mode; the first hart's exit code, and whether the other one has a start then.
-    for (harts, mode, code, given) in [
-        (2, Mode::First, 0, true),
-        (3, Mode::First, 0, true),
-        (1, Mode::First, -22, false),
-        (2, Mode::All, -16, true),
+    // The words, harts and mode; the first hart's exit code; the second one's steps and ending; the harts with a start.
+    for (words, harts, mode, code, steps, ending, given) in [
+        (OF_HART_1, 2, Mode::First, 0, 3, Some(Ending::Exited(7)), 2),
+        (OF_HART_1, 3, Mode::First, 0, 3, Some(Ending::Exited(7)), 2),
+        (OF_HART_1, 1, Mode::First, -22, 0, None, 1),
+        (
+            OF_HART_1,
+            2,
+            Mode::All,
+            -16,
+            8,
+            Some(Ending::Exited(-16)),
+            2,
+        ),
+        (OF_HART_0, 2, Mode::First, -16, 0, None, 1),
+        (OF_HART_2, 2, Mode::First, -22, 0, None, 1),
+        (OFF_BY_TWO, 2, Mode::First, -22, 0, None, 1),
     ] {
-        let mut memory = Memory::new(alloc, &image, harts)?;
-        let mut services = Services::new(alloc, &image, harts, mode)?;
-        let mut raw = RawLog::new(alloc)?;
-        let mut first = Hart::first(&image, 0, harts, mode);
-        steps(
-            8,
-            0,
-            &mut first,
-            &image,
-            &mut memory,
-            &mut services,
-            &mut raw,
-        )?;
-        assert_eq!(rt;
-            first.ending,
-            Some(Ending::Exited(code)),
-            "with {harts} harts"
-        );
-        assert_eq!(rt; (first.steps, first.blocks), (8, 2));
-        let start = services.starts.get(1).copied().unwrap_or(None);
-        assert_eq!(rt; start.is_some(), given);
-        if harts < 2 || matches!(mode, Mode::All) {
-            continue;
-        }
-        let start = start.ok_or("no start")?;
-        assert_eq!(rt; (start.pc, start.arg), (0x10020, 7));
-        let mut second = Hart::started(1, harts, start);
-        steps(
-            8,
-            1,
-            &mut second,
-            &image,
-            &mut memory,
-            &mut services,
-            &mut raw,
-        )?;
-        assert_eq!(rt; second.ending, Some(Ending::Exited(7)));
-        assert_eq!(rt; second.steps, 3);
-        assert!(rt; services.starts.get(2).copied().unwrap_or(None).is_none());
+        let mut program = STARTING;
+        program[0] = words[0];
+        program[2] = words[1];
+        let image = image_of(alloc, &elf(alloc, CODE, &program)?)?;
+        let pair = after(alloc, &image, harts, mode, &[(0, 8), (1, 8)])?;
+        assert_eq!(rt; pair.first.ending, Some(Ending::Exited(code)));
+        assert_eq!(rt; (pair.first.steps, pair.first.blocks), (8, 2));
+        assert_eq!(rt; (pair.second.steps, pair.given), (steps, given));
+        assert_eq!(rt; pair.second.ending, ending);
+    }
+    Ok(())
+}
+
+#[test]
+fn a_hart_goes_alone_up_to_its_limit_or_a_shared_step(rt: HostRuntime) -> Result<(), Fail> {
+    let alloc = rt.alloc();
+    // JAL x0, 0 goes round; LD x6, 0(x5) behind a NOP is not made.
+    for (words, pc, steps, ending) in [
+        ([0x0000_006F, NOP], CODE, 1000, Some(Ending::Limit)),
+        ([NOP, 0x0002_B303], 0x10004, 1, None),
+    ] {
+        let image = image_of(alloc, &elf(alloc, CODE, &words)?)?;
+        let hart = alone(alloc, &image, 1000)?;
+        assert_eq!(rt; (hart.pc, hart.steps), (pc, steps));
+        assert_eq!(rt; hart.ending, ending);
     }
     Ok(())
 }

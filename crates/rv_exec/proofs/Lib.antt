@@ -1,7 +1,6 @@
 pub mod Afterwards
 pub mod Amos
 pub mod Blocks
-pub mod Images
 pub mod Openings
 pub mod Registers
 pub mod Stepping

@@ -17,5 +17,3 @@ mod laws;
 mod raw_logs;
 mod services;
 mod steps;
-#[cfg(test)]
-mod tests;

@@ -6,5 +6,3 @@ pub use lines::{hex, line};
 mod lines;
 mod names;
 mod operands;
-#[cfg(test)]
-mod tests;

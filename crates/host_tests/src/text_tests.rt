@@ -1,6 +1,6 @@
 //! Words with their text, for each mnemonic: the words are those that GNU as 2.40 makes of the texts.
 
-use super::*;
+use rv_text::line;
 use std::test::Fail;
 
 const TEXTS: [(u32, &str); 115] = [
