@@ -3,6 +3,7 @@ use Rattle.std.proofs.Common.{◌≡◌, ℕ, zero, suc, ◌+◌, ◌^◌, ◌<�
 use Rattle.std.proofs.Common.{◌∷◌, ◌++◌, length, Option, Some, None, Result, Ok, Err, refl, sym, ap, subst, ◌∙◌}
 use Rattle.std.proofs.Common.{append_assoc, arith, lit<}
 use Rattle.std.specs.Prelude.{IfOk, IfSome, codes}
+use Rattle.std.specs.Option.{option_and_then}
 use Rattle.std.specs.List.{flat_map, All, AllByRecursion}
 use Rattle.std.specs.Int.{w32, w64, to_le_bytes}
 use Rattle.std.proofs.lemmas.Bool.{eqb-true}
@@ -21,14 +22,14 @@ use Rattle.flat_model.specs.Log.{turning, are_one, HasSteps, IsJoinedAfter}
 use Rattle.journal_file.specs.declared.refusal.Fault.{Fault}
 use Rattle.journal_file.specs.declared.refusal.Fault.TheVariants as faults
 use Rattle.journal_file.specs.declared.refusal.FileRefusal.{FileRefusal}
-use Rattle.journal_file.specs.declared.refusal.FileRefusal.TheVariants.{Magic, Version, BadHead, Extra}
+use Rattle.journal_file.specs.declared.refusal.FileRefusal.TheVariants.{Magic, Version, Extra}
 use Rattle.flat_model.specs.declared.journals.Mode.{Mode}
 use Rattle.flat_model.specs.declared.journals.Mode.TheVariants.{All as Every, First}
-use Rattle.journal_file.specs.Head.{Head, FileState, IsHead, are_within, mode_of, mode_byte}
+use Rattle.journal_file.specs.Head.{Head, FileState, IsHead, are_within, head_of, mode_of, mode_byte}
 use Rattle.journal_file.specs.Spelling.{set, origin, order, entry, header, version_of, head_bytes, spelling, FitsOrigin, FitsOrder}
 use Rattle.journal_file.specs.Spelling.{FitsEntry, AreEntries, IsFile, HasFewSubs, HasFewSubsIn}
 use Rattle.journal_file.specs.Reading.{◌>>=◌, Gives, byte_at, number_at, set_at, given, origin_at, ordered, order_at, turn_at, entered}
-use Rattle.journal_file.specs.Reading.{entry_at, placed, entries_at, version_at, judged, run_head_at, head_at, body_at, file_at}
+use Rattle.journal_file.specs.Reading.{entry_at, placed, entries_at, version_at, headed, run_head_at, head_at, body_at, file_at}
 use Rattle.journal_file.proofs.Laws.{IsBytes, IsBytes-rest, done, ok_is, field, bind_ok, guard_ok, Takes, Takes-then, Takes-byte}
 use Rattle.journal_file.proofs.Laws.{Takes-behind, Law, step, taken, again_then, again_last, byte_law, law32, law64}
 use Rattle.journal_file.proofs.Sets.{set_law}
@@ -266,12 +267,20 @@ record IsRead (bytes : List ℕ) (head : Option Head) (rest : List ℕ) : Type 0
   takes : Takes bytes (head_bytes head) rest
   within : IfSome head IsHead
 
-judged_is : (harts mode limit : ℕ) (o : Option Mode) (bytes rest : List ℕ) (x : Option Head × List ℕ) → mode_of mode ≡ o
-    → judged harts o limit rest ≡ Ok x → Takes bytes (harts ∷ mode ∷ to_le_bytes w64 limit) rest → IsRead bytes x.0 x.1 × (version_of x.0 ≡ 2)
-judged_is harts mode limit None bytes rest x o e takes = absurd cc
-judged_is harts mode limit (Some m) bytes rest x o e takes =
-    let made : Option Head × List ℕ = (Some (record { harts = harts; mode = m; limit = limit }), rest) in
-    let g = guard_on (are_within harts limit) BadHead made x e in
+abbrev head_before : Head → List ℕ → Option Head × List ℕ
+head_before head rest = (Some head, rest)
+
+guard_head : (b : Bool) (head : Head) (rest : List ℕ) (x : Option Head × List ℕ)
+    → headed rest (cond b (Some head) None) ≡ Ok x → (b ≡ true) × (head_before head rest ≡ x)
+guard_head true head rest x e = (refl, cc)
+guard_head false head rest x e = absurd cc
+
+headed_is : (harts mode limit : ℕ) (o : Option Mode) (bytes rest : List ℕ) (x : Option Head × List ℕ) → mode_of mode ≡ o
+    → headed rest (option_and_then (λ m. head_of harts m limit) o) ≡ Ok x → Takes bytes (harts ∷ mode ∷ to_le_bytes w64 limit) rest
+    → IsRead bytes x.0 x.1 × (version_of x.0 ≡ 2)
+headed_is harts mode limit None bytes rest x o e takes = absurd cc
+headed_is harts mode limit (Some m) bytes rest x o e takes =
+    let g = guard_head (are_within harts limit) (record { harts = harts; mode = m; limit = limit }) rest x e in
     subst (λ (y : Option Head × List ℕ). IsRead bytes y.0 y.1 × (version_of y.0 ≡ 2)) g.1
     (record { takes = rw (mode_back mode m o) takes; within = g.0 }, refl)
 
@@ -279,15 +288,15 @@ run_head_takes : (bytes : List ℕ) (x : Option Head × List ℕ) → IsBytes by
     → IsRead bytes x.0 x.1 × (version_of x.0 ≡ 2)
 unfolding run_head_at
 run_head_takes bytes x fits e =
-    let h = bind_ok (placed 0 (byte_at bytes)) (λ h. placed 0 (byte_at h.1) >>= λ m. placed 0 (number_at w64 m.1) >>= λ l. judged h.0 (mode_of m.0) l.0 l.1) x e in
-    let m = bind_ok (placed 0 (byte_at h.0.1)) (λ m. placed 0 (number_at w64 m.1) >>= λ l. judged h.0.0 (mode_of m.0) l.0 l.1) x h.2 in
-    let l = bind_ok (placed 0 (number_at w64 m.0.1)) (λ l. judged h.0.0 (mode_of m.0.0) l.0 l.1) x m.2 in
+    let h = bind_ok (placed 0 (byte_at bytes)) (λ h. placed 0 (byte_at h.1) >>= λ m. placed 0 (number_at w64 m.1) >>= λ l. headed l.1 (option_and_then (λ k. head_of h.0 k l.0) (mode_of m.0))) x e in
+    let m = bind_ok (placed 0 (byte_at h.0.1)) (λ m. placed 0 (number_at w64 m.1) >>= λ l. headed l.1 (option_and_then (λ k. head_of h.0.0 k l.0) (mode_of m.0))) x h.2 in
+    let l = bind_ok (placed 0 (number_at w64 m.0.1)) (λ l. headed l.1 (option_and_then (λ k. head_of h.0.0 k l.0) (mode_of m.0.0))) x m.2 in
     let t1 = byte_law.takes bytes h.0.0 h.0.1 fits (placed_ok 0 (byte_at bytes) h.0 h.1) in
     let t2 = byte_law.takes h.0.1 m.0.0 m.0.1 t1.0.rest_fits (placed_ok 0 (byte_at h.0.1) m.0 m.1) in
     let t3 = law64.takes m.0.1 l.0.0 l.0.1 t2.0.rest_fits (placed_ok 0 (number_at w64 m.0.1) l.0 l.1) in
     let two = Takes-then h.0.1 (m.0.0 ∷ []) m.0.1 (to_le_bytes w64 l.0.0) l.0.1 t2.0 t3.0 in
     let all = Takes-then bytes (h.0.0 ∷ []) h.0.1 (m.0.0 ∷ to_le_bytes w64 l.0.0) l.0.1 t1.0 two in
-    judged_is h.0.0 m.0.0 l.0.0 (mode_of m.0.0) bytes l.0.1 x refl l.2 all
+    headed_is h.0.0 m.0.0 l.0.0 (mode_of m.0.0) bytes l.0.1 x refl l.2 all
 
 other_of : (a b : Bool) → a || b ≡ true → a ≡ false → b ≡ true
 other_of true b either apart = absurd cc
@@ -314,9 +323,9 @@ small_limit harts limit within = grind (arith, nat_tests)
 run_head_again : (h : Head) (rest : List ℕ) → IsHead h → run_head_at (head_bytes (Some h) ++ rest) ≡ Ok (Some h, rest)
 unfolding run_head_at
 run_head_again h rest within =
-    ap (λ r. placed 0 r >>= λ l. judged h.harts (mode_of (mode_byte h.mode)) l.0 l.1) (law64.again h.limit rest (small_limit h.harts h.limit within))
-    ∙ ap (λ o. judged h.harts o h.limit rest) (mode_again h.mode)
-    ∙ ap (λ b. cond b (Ok (Some h, rest)) (Err BadHead)) within
+    ap (λ r. placed 0 r >>= λ l. headed l.1 (option_and_then (λ k. head_of h.harts k l.0) (mode_of (mode_byte h.mode)))) (law64.again h.limit rest (small_limit h.harts h.limit within))
+    ∙ ap (λ o. headed rest (option_and_then (λ k. head_of h.harts k h.limit) o)) (mode_again h.mode)
+    ∙ ap (λ b. headed rest (cond b (Some h) None)) within
 
 head_again : (head : Option Head) (rest : List ℕ) → IfSome head IsHead → head_at (version_of head) (head_bytes head ++ rest) ≡ Ok (head, rest)
 unfolding head_at

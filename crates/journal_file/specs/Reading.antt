@@ -3,6 +3,7 @@
 use Rattle.std.specs.Prelude.{◌≡◌, ℕ, zero, suc, ◌+◌, ◌||◌, nat_lt, ◌==◌, if◌then◌else◌, List, [], ◌∷◌}
 use Rattle.std.specs.Prelude.{length, take, drop}
 use Rattle.std.specs.Prelude.{Option, Some, None, Result, Ok, Err}
+use Rattle.std.specs.Option.{option_and_then}
 use Rattle.std.specs.Int.{Width, w16, w32, w64, byte_len, from_le_bytes}
 use Rattle.flat_model.specs.declared.refusals.Refused.{Refused}
 use Rattle.flat_model.specs.declared.refusals.Refused.TheVariants as refused
@@ -20,7 +21,6 @@ use Rattle.flat_model.specs.declared.journals.Order.{Order}
 use Rattle.flat_model.specs.declared.journals.Order.TheVariants as orders
 use Rattle.flat_model.specs.declared.journals.Origin.{Origin}
 use Rattle.flat_model.specs.declared.journals.Origin.TheVariants as origins
-use Rattle.flat_model.specs.declared.journals.Mode.{Mode}
 use Rattle.flat_model.specs.declared.journals.Entry.{Entry}
 use Rattle.flat_model.specs.declared.journals.Entry.TheVariants as entries
 use Rattle.flat_model.specs.Kinds.{staying, resetting, uninstalling}
@@ -29,7 +29,7 @@ use Rattle.journal_file.specs.declared.refusal.Fault.{Fault}
 use Rattle.journal_file.specs.declared.refusal.Fault.TheVariants as faults
 use Rattle.journal_file.specs.declared.refusal.FileRefusal.{FileRefusal}
 use Rattle.journal_file.specs.declared.refusal.FileRefusal.TheVariants.{Short, Magic, Version, BadHead, BadEntry, Extra}
-use Rattle.journal_file.specs.Head.{Head, FileState, are_within, mode_of}
+use Rattle.journal_file.specs.Head.{Head, FileState, head_of, mode_of}
 use Rattle.journal_file.specs.Table.{op_of, cond_of}
 
 infixl 10 ◌>>=◌
@@ -288,19 +288,18 @@ version_at bytes = do
   version ← placed 0 (number_at w32 magic.1)
   if version.0 == 1 || version.0 == 2 then Ok version else Err (Version version.0)
 
--- a head of these numbers, with the mode that its byte stands for, judged together
-abbrev pub judged : ℕ → Option Mode → ℕ → List ℕ → Result (Option Head × List ℕ) FileRefusal
-judged harts None limit rest = Err BadHead
-judged harts (Some mode) limit rest =
-    if are_within harts limit then Ok (Some (record { harts = harts; mode = mode; limit = limit }), rest) else Err BadHead
+-- a head, before the bytes after it, where there is one
+abbrev pub headed : List ℕ → Option Head → Result (Option Head × List ℕ) FileRefusal
+headed rest None = Err BadHead
+headed rest (Some head) = Ok (Some head, rest)
 
--- the head of version 2, read to its end before it is judged
+-- the head of version 2, read to its end before its numbers are judged together
 unfoldable pub run_head_at : List ℕ → Result (Option Head × List ℕ) FileRefusal
 run_head_at bytes = do
   harts ← placed 0 (byte_at bytes)
   mode ← placed 0 (byte_at harts.1)
   limit ← placed 0 (number_at w64 mode.1)
-  judged harts.0 (mode_of mode.0) limit.0 limit.1
+  headed limit.1 (option_and_then (λ m. head_of harts.0 m limit.0) (mode_of mode.0))
 
 -- the head that a version has
 unfoldable pub head_at : ℕ → List ℕ → Result (Option Head × List ℕ) FileRefusal

@@ -19,7 +19,7 @@ pub struct RunHead {
 
 impl Model for RunHead {
     ghost use Rattle.std.specs.Prelude.{◌≡◌, true};
-    ghost use Rattle.journal_file.specs.Head.{Head, IsHead, are_within};
+    ghost use Rattle.journal_file.specs.Head.{Head, are_within};
 
     ghost Value = { Head };
 

@@ -11,6 +11,4 @@ mod heads;
 mod plugins;
 mod reading;
 mod refusal;
-#[cfg(test)]
-mod tests;
 mod writing;

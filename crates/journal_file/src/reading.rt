@@ -1,14 +1,14 @@
 //! Reading a journal file.
 
-ghost use Rattle.std.specs.Prelude.{◌≡◌, ◌<◌, ℕ, false, List, Some, None, Ok, Err, IfOk, MatchOption};
+ghost use Rattle.std.specs.Prelude.{◌≡◌, ◌<◌, false, None, IfOk};
 ghost use Rattle.std.specs.Int.{w32, w64};
 ghost use Rattle.std.specs.List.{All};
+ghost use Rattle.std.specs.Option.{option_and_then};
 ghost use Rattle.flat_model.specs.Log.{turning, are_one, HasSteps};
-ghost use Rattle.journal_file.specs.declared.refusal.FileRefusal.TheVariants.{BadHead};
 ghost use Rattle.journal_file.specs.File.{held};
-ghost use Rattle.journal_file.specs.Head.{FileState, mode_of};
+ghost use Rattle.journal_file.specs.Head.{FileState, head_of, mode_of};
 ghost use Rattle.journal_file.specs.Reading.{Gives, byte_at, number_at, origin_at, order_at, turn_at, entry_at, entries_at, body_at};
-ghost use Rattle.journal_file.specs.Reading.{placed, refused_at, version_at, judged, run_head_at, head_at, file_at};
+ghost use Rattle.journal_file.specs.Reading.{placed, refused_at, version_at, run_head_at, head_at, file_at};
 ghost use Rattle.journal_file.specs.Spelling.{IsFile, HasFewSubsIn, spelling};
 
 use crate::fields::{Field, read_u8, read_u32, read_u64};
@@ -209,9 +209,7 @@ fn mode_of(byte: u8) -> Option<Mode>
 
 /// A head of these numbers, judged together.
 fn judge(harts: u8, mode: u8, limit: u64) -> Option<RunHead>
-    ensures { MatchOption result
-        ((rest : List ℕ) → judged harts (mode_of mode) limit rest ≡ Err BadHead)
-        (λ head. (rest : List ℕ) → judged harts (mode_of mode) limit rest ≡ Ok (Some head, rest)) }
+    ensures { result ≡ option_and_then (λ m. head_of harts m limit) (mode_of mode) }
 {
     let mode = mode_of(mode)?;
     RunHead::new(harts, mode, limit)

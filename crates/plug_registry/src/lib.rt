@@ -26,8 +26,6 @@ use std::marker::Model;
 
 mod rules;
 mod slot;
-#[cfg(test)]
-mod tests;
 
 /// The plug-ins of a run.
 #[derive(Drop)]
@@ -139,7 +137,8 @@ impl Registry {
         }
     }
 
-    /// How a set of the plug-in has ended, by its place from 0; None while it is there.
+    /// How a set of the plug-in has ended, by its place from 0; None while it is there, and where there is no such set or
+    /// plug-in.
     pub fn ending(&self, plugin: u8, set: usize) -> Option<How>
         ensures { result ≡ ending_of self.now.table plugin set }
     {

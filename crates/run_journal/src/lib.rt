@@ -5,5 +5,3 @@ pub use journal::Journal;
 
 mod journal;
 pub mod laws;
-#[cfg(test)]
-mod tests;

@@ -1,5 +1,5 @@
-use super::*;
 use flat_model::{Act, Ask, Cond, Entry, Kind, KindName, Mode, Order, Origin, Refused};
+use journal_file::{FileRefusal, RunHead, read, write};
 use std::alloc::Global;
 use std::test::*;
 

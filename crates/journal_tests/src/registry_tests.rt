@@ -1,8 +1,10 @@
 ghost use Rattle.std.specs.Prelude.{◌<◌, length};
 
-use super::*;
 use flat_model::limits::{CLASSES_ALL, KIND_INSN, READS_AND_WRITES};
-use flat_model::{Act, Ask, Filter, Kind, KindName, Op, Sub, Subs};
+use flat_model::{
+    Act, Ask, Filter, How, Kind, KindName, Op, Order, OrderRefusal, PlugState, SetSpec, Sub, Subs,
+};
+use plug_registry::Registry;
 use std::alloc::Global;
 use std::test::*;
 
@@ -52,7 +54,7 @@ fn calls(alloc: Global, number: u8) -> Result<SetSpec, Fail> {
 #[test]
 fn a_fresh_registry_refuses_by_the_first_broken_rule(rt: HostRuntime) -> Result<(), Fail> {
     let alloc = rt.alloc();
-    let registry = Registry::new(alloc, 8, 8)?;
+    let registry = Registry::new(alloc, 2, 128)?;
     let plugin = 1;
     let none = OrderRefusal::NoPlugin { plugin, count: 0 };
     assert_eq!(rt; registry.check(&Order::Reset { plugin }), Err(none));
@@ -61,20 +63,24 @@ fn a_fresh_registry_refuses_by_the_first_broken_rule(rt: HostRuntime) -> Result<
         subs: 3,
         calling: 3,
     };
-    let beyond = OrderRefusal::BadEntry {
-        index: 1,
+    let beyond = |index: u32| OrderRefusal::BadEntry {
+        index,
         entry: 1,
         entries: 1,
     };
     for (list, refusal) in [
         ([one, one, one].as_slice(), many),
         (&[sub(2, 1, add(1))], OrderRefusal::BadRange { index: 0 }),
-        (&[one, sub(0, 9, add(1))], beyond),
-        (&[one, one], OrderRefusal::FewBoxes { need: 16, left: 8 }),
+        (&[sub(0, 9, add(1))], beyond(0)),
+        (&[one, sub(0, 9, add(1))], beyond(1)),
     ] {
         let spec = set(alloc, list)?;
         assert_eq!(rt; registry.check(&Order::Install { spec }), Err(refusal));
     }
+    let spec = set(alloc, &[one, one])?;
+    let few = OrderRefusal::FewBoxes { need: 16, left: 8 };
+    let small = Registry::new(alloc, 8, 8)?;
+    assert_eq!(rt; small.check(&Order::Install { spec }), Err(few));
     Ok(())
 }
 

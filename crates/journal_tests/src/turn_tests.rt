@@ -1,5 +1,5 @@
-use super::*;
 use flat_model::Entry;
+use run_journal::Journal;
 use std::test::*;
 
 #[test]
