@@ -1,0 +1,8 @@
+//! Whole runs.
+#![tactic(auto)]
+
+pub use installs::first_refused;
+
+mod installs;
+#[cfg(test)]
+mod tests;
