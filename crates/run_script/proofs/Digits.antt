@@ -89,39 +89,41 @@ number_reads base most n text some s =
 
 pub entry_spelt : (n : ℕ) (text : List ℕ) → entry_number text ≡ Some n → SpellsEntry n text
 entry_spelt n text e =
-    option_and_then_some (λ m. cond (nat_le m 63) (Some m) None) (number 10 20 text) n e (λ m found small.
-    let both = some_if (nat_le m 63) m n small in
+    option_and_then_some (λ m. cond (nat_lt m 64) (Some m) None) (number 10 20 text) n e (λ m found small.
+    let both = some_if (nat_lt m 64) m n small in
     record {
       num = number_spelt 10 20 n text (found ∙ ap (λ x. Some x) both.1);
-      small = omega (arith, leb-true m 63 both.0, both.1);
+      small = omega (arith, ltb-true m 64 both.0, both.1);
     })
 
 pub entry_reads : (n : ℕ) (text : List ℕ) → SpellsEntry n text → entry_number text ≡ Some n
 entry_reads n text s =
-    ap (option_and_then (λ m. cond (nat_le m 63) (Some m) None)) (number_reads 10 20 n text (omega arith) s.num)
-    ∙ cond-true _ _ _ (le-leb n 63 s.small)
+    ap (option_and_then (λ m. cond (nat_lt m 64) (Some m) None)) (number_reads 10 20 n text (omega arith) s.num)
+    ∙ cond-true _ _ _ (lt-ltb n 64 s.small)
 
 -- digits are no signs
 
-letter_plain : (b : ℕ) → 65 ≤ b → is_plain b ≡ true
-letter_plain b h = and_from _ _ (le-leb 48 b (omega arith)) (or_right _ _ (le-leb 65 b h))
+letter_plain : (b : ℕ) → 65 ≤ b → b < 128 → is_plain b ≡ true
+letter_plain b h small =
+    and_from _ _ (and_from _ _ (le-leb 48 b (omega arith)) (or_right _ _ (le-leb 65 b h))) (lt-ltb b 128 small)
 
 digit_plain : (base b d : ℕ) → digit base b ≡ Some d → is_plain b ≡ true
 digit_plain base b d e =
     elim (chosen (nat_le 48 b && nat_le b 57) _ _ _ e) [
       | inl decimal ↦
           let sizes = and_parts (nat_le 48 b) (nat_le b 57) decimal.0 in
-          and_from _ _ sizes.0 (or_left _ _ sizes.1)
+          let small : b < 128 = omega (arith, leb-true b 57 sizes.1) in
+          and_from _ _ (and_from _ _ sizes.0 (or_left _ _ sizes.1)) (lt-ltb b 128 small)
       | inr more ↦
           elim (chosen (nat_le 97 b && nat_le b 102 && base == 16) _ _ _ more.1) [
             | inl small ↦
                 let sizes = and_parts (nat_le 97 b) (nat_le b 102) (and_parts (nat_le 97 b && nat_le b 102) (base == 16) small.0).0 in
-                letter_plain b (omega (arith, leb-true 97 b sizes.0))
+                letter_plain b (omega (arith, leb-true 97 b sizes.0)) (omega (arith, leb-true b 102 sizes.1))
             | inr rest ↦
                 elim (chosen (nat_le 65 b && nat_le b 70 && base == 16) _ _ _ rest.1) [
                   | inl large ↦
                       let sizes = and_parts (nat_le 65 b) (nat_le b 70) (and_parts (nat_le 65 b && nat_le b 70) (base == 16) large.0).0 in
-                      letter_plain b (leb-true 65 b sizes.0)
+                      letter_plain b (leb-true 65 b sizes.0) (omega (arith, leb-true b 70 sizes.1))
                   | inr none ↦ absurd cc
                 ]
           ]

@@ -16,9 +16,10 @@ use Rattle.run_script.specs.Bytes.{before, after, tail_len, colon}
 use Rattle.run_script.specs.Names.{kind_names, cond_names, kind_named, cond_named}
 use Rattle.run_script.specs.Numbers.{number, entry_number}
 use Rattle.run_script.specs.Heads.{inline_of, inline_after, inline_head, when_of, when_numbers, when_named, when_tail, when_after}
-use Rattle.run_script.specs.Heads.{when_head, worded_head, act_head, or_act, head_of, calls_a_box}
+use Rattle.run_script.specs.Heads.{when_head, worded_head, act_head, or_act, head_of, calls_a_box, does_call}
 use Rattle.run_script.specs.Grammar.{SpellsHead, SpellsEntry, SpellsNum, op_word}
-use Rattle.run_script.proofs.Signs.{Free, is_plain, free_plain, free_append, before_at, after_at, cut_joins, tail_at, CutsLast, tail_cuts}
+use Rattle.run_script.proofs.Signs.{Free, is_plain, free_plain, before_at, after_at, cut_joins, tail_at, CutsLast, tail_cuts}
+use Rattle.run_script.proofs.Signs.{Each, other, Takes, differs, each_plain, each_append}
 use Rattle.run_script.proofs.Tables.{chosen, named_in, kinds_read, conds_read}
 use Rattle.run_script.proofs.Digits.{number_spelt, number_reads, entry_spelt, entry_reads, digits_plain}
 
@@ -221,18 +222,12 @@ head_reads (When cond entry imm kind) text s =
     ∙ (ap (λ a. act_head (codes "when") a) (after_at colon (codes "when") rest refl)
     ∙ when_reads cond kind entry imm c e n k s.4 s.5 s.6 s.7))
 
--- whether a head calls a box
-abbrev pub calls_box : Head → Bool
-calls_box (Boxed kind) = true
-calls_box (Inline op entry imm) = false
-calls_box (When cond entry imm kind) = true
-
 op_calls : (op : Op) (rest : List ℕ) → calls_a_box (op_word op ++ rest) ≡ false
 unfolding calls_a_box
 op_calls Add rest = ap (λ b. bytes_eq b (codes "when") && is_some (after colon (op_word Add ++ rest))) (before_at colon (codes "add") rest refl)
 op_calls Store rest = ap (λ b. bytes_eq b (codes "when") && is_some (after colon (op_word Store ++ rest))) (before_at colon (codes "set") rest refl)
 
-pub head_calls : (head : Head) (text : List ℕ) → SpellsHead head text → calls_a_box text ≡ calls_box head
+pub head_calls : (head : Head) (text : List ℕ) → SpellsHead head text → calls_a_box text ≡ does_call head
 unfolding calls_a_box
 head_calls (Boxed kind) text s =
     ap (λ k. is_some k || (bytes_eq (before colon text) (codes "when") && is_some (after colon text))) (kinds_read.reads kind text s)
@@ -244,24 +239,28 @@ head_calls (When cond entry imm kind) text s =
     ∙ (ap (λ b. bytes_eq b (codes "when") && is_some (after colon whole)) (before_at colon (codes "when") rest refl)
     ∙ ap (λ a. is_some a) (after_at colon (codes "when") rest refl))
 
-op_free : (c : ℕ) → is_plain c ≡ false → Free c (codes ":") → (op : Op) → Free c (op_word op)
-op_free c sign colons Add = free_append c (codes "add") (codes ":") (free_plain c (codes "add") sign refl) colons
-op_free c sign colons Store = free_append c (codes "set") (codes ":") (free_plain c (codes "set") sign refl) colons
+op_each : (p : ℕ → Bool) → Takes p → Each p (codes ":") → (op : Op) → Each p (op_word op)
+op_each p takes colons Add = each_append p (codes "add") (codes ":") (each_plain p (codes "add") takes refl) colons
+op_each p takes colons Store = each_append p (codes "set") (codes ":") (each_plain p (codes "set") takes refl) colons
+
+-- what plain bytes and colons pass, heads do
+pub head_each : (p : ℕ → Bool) → Takes p → Each p (codes ":") → (head : Head) (text : List ℕ) → SpellsHead head text → Each p text
+head_each p takes colons (Boxed kind) text s = each_plain p text takes (kinds_read.plain kind text s)
+head_each p takes colons (Inline op entry imm) text s =
+    let e = s.0 in let n = s.1 in
+    subst (λ t. Each p t) (sym s.4)
+    (each_append p (op_word op) (e ++ colon ∷ n) (op_each p takes colons op)
+    (each_append p e (colon ∷ n) (each_plain p e takes (digits_plain 10 20 entry e s.2.num))
+    (each_append p (codes ":") n colons (each_plain p n takes (digits_plain 10 20 imm n s.3)))))
+head_each p takes colons (When cond entry imm kind) text s =
+    let w = s.0 in let e = s.1 in let n = s.2 in let k = s.3 in
+    let then = λ (x y : List ℕ) (fx : Each p x) (fy : Each p y). each_append p x (colon ∷ y) fx (each_append p (codes ":") y colons fy) in
+    let last = then n k (each_plain p n takes (digits_plain 10 20 imm n s.6)) (each_plain p k takes (kinds_read.plain kind k s.7)) in
+    let more = then e (n ++ colon ∷ k) (each_plain p e takes (digits_plain 10 20 entry e s.5.num)) last in
+    let all = then w (e ++ colon ∷ (n ++ colon ∷ k)) (each_plain p w takes (conds_read.plain cond w s.4)) more in
+    subst (λ t. Each p t) (sym s.8)
+    (then (codes "when") (w ++ colon ∷ (e ++ colon ∷ (n ++ colon ∷ k))) (each_plain p (codes "when") takes refl) all)
 
 -- a head has no sign that stands between items or parts
 pub head_free : (c : ℕ) → is_plain c ≡ false → Free c (codes ":") → (head : Head) (text : List ℕ) → SpellsHead head text → Free c text
-head_free c sign colons (Boxed kind) text s = free_plain c text sign (kinds_read.plain kind text s)
-head_free c sign colons (Inline op entry imm) text s =
-    let e = s.0 in let n = s.1 in
-    subst (λ t. Free c t) (sym s.4)
-    (free_append c (op_word op) (e ++ colon ∷ n) (op_free c sign colons op)
-    (free_append c e (colon ∷ n) (free_plain c e sign (digits_plain 10 20 entry e s.2.num))
-    (free_append c (codes ":") n colons (free_plain c n sign (digits_plain 10 20 imm n s.3)))))
-head_free c sign colons (When cond entry imm kind) text s =
-    let w = s.0 in let e = s.1 in let n = s.2 in let k = s.3 in
-    let then = λ (x y : List ℕ) (fx : Free c x) (fy : Free c y). free_append c x (colon ∷ y) fx (free_append c (codes ":") y colons fy) in
-    let last = then n k (free_plain c n sign (digits_plain 10 20 imm n s.6)) (free_plain c k sign (kinds_read.plain kind k s.7)) in
-    let more = then e (n ++ colon ∷ k) (free_plain c e sign (digits_plain 10 20 entry e s.5.num)) last in
-    let all = then w (e ++ colon ∷ (n ++ colon ∷ k)) (free_plain c w sign (conds_read.plain cond w s.4)) more in
-    subst (λ t. Free c t) (sym s.8)
-    (then (codes "when") (w ++ colon ∷ (e ++ colon ∷ (n ++ colon ∷ k))) (free_plain c (codes "when") sign refl) all)
+head_free c sign colons head text s = head_each (other c) (differs c sign) colons head text s

@@ -8,3 +8,8 @@ pub mod PartTexts
 pub mod WordTexts
 pub mod SetRules
 pub mod OneReading
+pub mod FieldPlaces
+pub mod LineCuts
+pub mod Entries
+pub mod ScriptTexts
+pub mod Shifts

@@ -7,13 +7,13 @@ use Rattle.run_script.specs.declared.names.Names.TheVariants.{Events, Classes}
 use Rattle.run_script.specs.declared.refusals.SpecRule.{SpecRule}
 use Rattle.run_script.specs.declared.heads.Head.{Head}
 use Rattle.run_script.specs.declared.items.Item.{Item}
-use Rattle.run_script.specs.declared.items.Item.TheVariants.{Kinds, Pc, Class, Rw, Then}
+use Rattle.run_script.specs.declared.items.Item.TheVariants.{Kinds, Pc, Class, Rw, Quota, Asks, Then}
 use Rattle.run_script.specs.Bytes.{before, after, pieces, minus, equals, comma, plus}
-use Rattle.run_script.specs.Names.{rw_names, named, mask}
+use Rattle.run_script.specs.Names.{rw_names, ask_names, named, mask}
 use Rattle.run_script.specs.Numbers.{number}
 use Rattle.run_script.specs.Grammar.{Part, SpellsItem, SpellsValue, SpellsHead, SpellsPart, SpellsWord, item_name}
 use Rattle.run_script.proofs.Signs.{free_plain, free_cons, before_at, after_at, pieces_joined}
-use Rattle.run_script.proofs.Tables.{rws_read, mask_reads, list_pieces}
+use Rattle.run_script.proofs.Tables.{rws_read, asks_read, mask_reads, list_pieces}
 use Rattle.run_script.proofs.Digits.{number_reads, digits_plain}
 use Rattle.run_script.proofs.ItemTexts.{name_free}
 use Rattle.run_script.proofs.HeadTexts.{head_free, head_reads}
@@ -37,7 +37,9 @@ by_name name value =
     (cond (bytes_eq name (codes "class")) (option_map (λ bits. Class bits) (mask Classes value))
     (cond (bytes_eq name (codes "rw")) (option_map (λ rw. Rw rw) (named rw_names value))
     (cond (bytes_eq name (codes "pc")) (between (before minus value) (after minus value))
-    (option_map (λ n. Then n) (number 10 20 value)))))
+    (cond (bytes_eq name (codes "quota")) (option_map (λ n. Quota n) (number 10 20 value))
+    (cond (bytes_eq name (codes "ask")) (option_map (λ ask. Asks ask) (named ask_names value))
+    (option_map (λ n. Then n) (number 10 20 value)))))))
 
 abbrev by_value : List ℕ → Option (List ℕ) → Option Item
 by_value name None = None
@@ -50,6 +52,8 @@ value_tells : (item : Item) (value : List ℕ) → SpellsValue item value → by
 value_tells (Kinds bits) value s = ap (option_map (λ n. Kinds n)) (mask_reads Events bits value s)
 value_tells (Class bits) value s = ap (option_map (λ n. Class n)) (mask_reads Classes bits value s)
 value_tells (Rw rw) value s = ap (option_map (λ n. Rw n)) (rws_read.reads rw value s)
+value_tells (Quota n) value s = ap (option_map (λ m. Quota m)) (number_reads 10 20 n value (omega arith) s)
+value_tells (Asks ask) value s = ap (option_map (λ a. Asks a)) (asks_read.reads ask value s)
 value_tells (Then n) value s = ap (option_map (λ m. Then m)) (number_reads 10 20 n value (omega arith) s)
 value_tells (Pc span) value s =
     let lo = s.0 in let hi = s.1 in

@@ -12,12 +12,12 @@ use Rattle.flat_model.specs.Registry.{set_refusal}
 use Rattle.run_script.specs.declared.heads.Head.{Head}
 use Rattle.run_script.specs.declared.heads.Head.TheVariants.{Boxed, Inline, When}
 use Rattle.run_script.specs.declared.items.Item.{Item}
-use Rattle.run_script.specs.declared.items.Item.TheVariants.{Kinds, Pc, Class, Rw, Then}
+use Rattle.run_script.specs.declared.items.Item.TheVariants.{Kinds, Pc, Class, Rw, Quota, Asks, Then}
 use Rattle.run_script.specs.declared.items.Items.{Items}
 use Rattle.run_script.specs.declared.items.Span.{Span}
 use Rattle.run_script.specs.Heads.{sub_of, entries_of}
 use Rattle.run_script.specs.Grammar.{Part, SpellsHead, SpellsPart, SpellsWord}
-use Rattle.run_script.specs.Parts.{pc_in, given, items_of, part_sub, entries_in, set_of, IsOrdered, KeepsItemRules, KeepsRules}
+use Rattle.run_script.specs.Parts.{pc_in, given, items_of, part_sub, entries_in, set_of, IsInRange, KeepsItemRules, KeepsRules}
 
 passes_none : {A : Type 0} (p : A → Bool) (xs : List A) → AllByRecursion (λ x. p x ≡ false) xs → position_or_len p xs ≡ length xs
 passes_none p [] each = refl
@@ -34,12 +34,14 @@ abbrev Within : Option Span → Type 0
 Within None = Unit {0}
 Within (Some span) = span.lo ≤ span.hi
 
-pc_within : (items : List Item) → AllByRecursion IsOrdered items → Within (given pc_in items)
+pc_within : (items : List Item) → AllByRecursion IsInRange items → Within (given pc_in items)
 pc_within [] each = tt
 pc_within (Kinds bits ∷ items) each = pc_within items each.1
 pc_within (Pc span ∷ items) each = each.0
 pc_within (Class bits ∷ items) each = pc_within items each.1
 pc_within (Rw rw ∷ items) each = pc_within items each.1
+pc_within (Quota n ∷ items) each = pc_within items each.1
+pc_within (Asks ask ∷ items) each = pc_within items each.1
 pc_within (Then n ∷ items) each = pc_within items each.1
 
 abbrev all_addresses : Span

@@ -14,35 +14,52 @@ use Rattle.std.proofs.lemmas.List.Splits.{slice_split_at, slice_split_none}
 use Rattle.run_script.proofs.Cuts.{some_where, none_where}
 use Rattle.run_script.specs.Bytes.{before, after, pieces, tail_len}
 
+-- every byte of a text passes a test
+abbrev pub Each : (ℕ → Bool) → List ℕ → Type 0
+Each p text = list_all p text ≡ true
+
+abbrev pub other : ℕ → ℕ → Bool
+other c b = not (b == c)
+
 -- a text has no byte c
 abbrev pub Free : ℕ → List ℕ → Type 0
-Free c text = list_all (λ b. not (b == c)) text ≡ true
+Free c text = Each (other c) text
 
 -- a byte that can be a digit or a letter, and is no sign
 abbrev pub is_plain : ℕ → Bool
-is_plain b = nat_le 48 b && (nat_le b 57 || nat_le 65 b)
+is_plain b = nat_le 48 b && (nat_le b 57 || nat_le 65 b) && nat_lt b 128
 
 abbrev pub IsPlain : List ℕ → Type 0
-IsPlain text = list_all is_plain text ≡ true
+IsPlain text = Each is_plain text
 
-differs : (c b : ℕ) → is_plain c ≡ false → is_plain b ≡ true → not (b == c) ≡ true
-differs c b sign plain =
+-- a test that every plain byte passes
+abbrev pub Takes : (ℕ → Bool) → Type 0
+Takes p = (b : ℕ) → is_plain b ≡ true → p b ≡ true
+
+pub differs : (c : ℕ) → is_plain c ≡ false → Takes (other c)
+differs c sign b plain =
     elim (cases_Bool (b == c)) [
       | inl same ↦ absurd (false≢true (sym sign ∙ (ap is_plain (sym (eqb-true b c same)) ∙ plain)))
-      | inr other ↦ ap not other
+      | inr other' ↦ ap not other'
     ]
 
-pub free_plain : (c : ℕ) (text : List ℕ) → is_plain c ≡ false → IsPlain text → Free c text
-free_plain c [] sign plain = refl
-free_plain c (b ∷ bs) sign plain =
+pub each_plain : (p : ℕ → Bool) (text : List ℕ) → Takes p → IsPlain text → Each p text
+each_plain p [] takes plain = refl
+each_plain p (b ∷ bs) takes plain =
     let parts = and_parts (is_plain b) (list_all is_plain bs) plain in
-    and_from _ _ (differs c b sign parts.0) (free_plain c bs sign parts.1)
+    and_from _ _ (takes b parts.0) (each_plain p bs takes parts.1)
+
+pub free_plain : (c : ℕ) (text : List ℕ) → is_plain c ≡ false → IsPlain text → Free c text
+free_plain c text sign plain = each_plain (other c) text (differs c sign) plain
+
+pub each_append : (p : ℕ → Bool) (x y : List ℕ) → Each p x → Each p y → Each p (x ++ y)
+each_append p [] y fx fy = fy
+each_append p (b ∷ bs) y fx fy =
+    let parts = and_parts (p b) (list_all p bs) fx in
+    and_from _ _ parts.0 (each_append p bs y parts.1 fy)
 
 pub free_append : (c : ℕ) (x y : List ℕ) → Free c x → Free c y → Free c (x ++ y)
-free_append c [] y fx fy = fy
-free_append c (b ∷ bs) y fx fy =
-    let parts = and_parts (not (b == c)) (list_all (λ d. not (d == c)) bs) fx in
-    and_from _ _ parts.0 (free_append c bs y parts.1 fy)
+free_append c x y fx fy = each_append (other c) x y fx fy
 
 none_is : (c : ℕ) (text : List ℕ) → Free c text → All (λ b. (b == c) ≡ false) text
 none_is c text free =
@@ -102,43 +119,46 @@ cut_joins c text rest e =
     split_at_first p text 0 within ∙ ap (λ b. before c text ++ b ∷ after_first p text) is_sign
     ∙ ap (λ r. before c text ++ c ∷ r) both.1
 
+-- every byte of every text of a list passes a test
+abbrev pub AllEach : (ℕ → Bool) → List (List ℕ) → Type 0
+AllEach p [] = Unit {0}
+AllEach p (text ∷ texts) = Each p text × AllEach p texts
+
 -- every text of a list is without the sign
-pub AllFree : ℕ → List (List ℕ) → Type 0
-AllFree c [] = Unit {0}
-AllFree c (text ∷ texts) = Free c text × AllFree c texts
+abbrev pub AllFree : ℕ → List (List ℕ) → Type 0
+AllFree c texts = AllEach (other c) texts
+
+pub each_texts : {A : Type 0} (p : ℕ → Bool) (Spells : A → List ℕ → Type 0) → ((x : A) (text : List ℕ) → Spells x text → Each p text)
+    → (xs : List A) (texts : List (List ℕ)) → AllZip Spells xs texts → AllEach p texts
+each_texts p Spells passes [] [] each = tt
+each_texts p Spells passes [] (t ∷ ts) each = absurd each
+each_texts p Spells passes (x ∷ xs) [] each = absurd each
+each_texts p Spells passes (x ∷ xs) (t ∷ ts) each = (passes x t each.0, each_texts p Spells passes xs ts each.1)
 
 pub free_texts : {A : Type 0} (c : ℕ) (Spells : A → List ℕ → Type 0) → ((x : A) (text : List ℕ) → Spells x text → Free c text)
     → (xs : List A) (texts : List (List ℕ)) → AllZip Spells xs texts → AllFree c texts
-unfolding AllFree
-free_texts c Spells free [] [] each = tt
-free_texts c Spells free [] (t ∷ ts) each = absurd each
-free_texts c Spells free (x ∷ xs) [] each = absurd each
-free_texts c Spells free (x ∷ xs) (t ∷ ts) each = (free x t each.0, free_texts c Spells free xs ts each.1)
+free_texts c Spells free xs texts each = each_texts (other c) Spells free xs texts each
 
-pub free_nil : (c : ℕ) → AllFree c []
-unfolding AllFree
-free_nil c = tt
+pub each_cons : (p : ℕ → Bool) (t : List ℕ) (ts : List (List ℕ)) → Each p t → AllEach p ts → AllEach p (t ∷ ts)
+each_cons p t ts f fs = (f, fs)
 
 pub free_cons : (c : ℕ) (t : List ℕ) (ts : List (List ℕ)) → Free c t → AllFree c ts → AllFree c (t ∷ ts)
-unfolding AllFree
-free_cons c t ts f fs = (f, fs)
+free_cons c t ts f fs = each_cons (other c) t ts f fs
 
 -- texts that were joined are the pieces
 pub pieces_joined : (c : ℕ) (t : List ℕ) (ts : List (List ℕ)) → AllFree c (t ∷ ts) → pieces c (join_with_byte c (t ∷ ts)) ≡ t ∷ ts
-unfolding AllFree
 pieces_joined c t [] free = slice_split_none (λ b. b == c) t (none_is c t free.0)
 pieces_joined c t (u ∷ us) free =
     slice_split_at (λ b. b == c) t c (join_with_byte c (u ∷ us)) (none_is c t free.0) (eq-eqb c c refl)
     ∙ ap (λ r. t ∷ r) (pieces_joined c u us free.1)
 
--- another sign than d stands in none of them, so it stands not in them joined with d
-pub free_joined : (c d : ℕ) → Free c (d ∷ []) → (ts : List (List ℕ)) → AllFree c ts → Free c (join_with_byte d ts)
-unfolding AllFree
-free_joined c d other [] free = refl
-free_joined c d other (t ∷ []) free = free.0
-free_joined c d other (t ∷ u ∷ us) free =
-    free_append c t (d ∷ join_with_byte d (u ∷ us)) free.0
-    (free_append c (d ∷ []) (join_with_byte d (u ∷ us)) other (free_joined c d other (u ∷ us) free.1))
+-- what each of them passes, they pass joined with a sign that passes it
+pub each_joined : (p : ℕ → Bool) (d : ℕ) → Each p (d ∷ []) → (ts : List (List ℕ)) → AllEach p ts → Each p (join_with_byte d ts)
+each_joined p d sign [] each = refl
+each_joined p d sign (t ∷ []) each = each.0
+each_joined p d sign (t ∷ u ∷ us) each =
+    each_append p t (d ∷ join_with_byte d (u ∷ us)) each.0
+    (each_append p (d ∷ []) (join_with_byte d (u ∷ us)) sign (each_joined p d sign (u ∷ us) each.1))
 
 -- what stands after the last sign
 tail_place : (c : ℕ) (text k : List ℕ) → Free c (reverse k) → position_or_len (λ b. b == c) (reverse (text ++ c ∷ k)) ≡ length k

@@ -10,9 +10,10 @@ use Rattle.std.proofs.lemmas.Slice.Eq.{bytes_eq-Decides}
 use Rattle.run_script.specs.declared.names.Names.{Names}
 use Rattle.run_script.specs.declared.names.Names.TheVariants as names
 use Rattle.run_script.specs.Bytes.{slash, pieces}
-use Rattle.run_script.specs.Names.{named, kind_names, cond_names, event_names, class_names, rw_names, names_of, bit_named, mask_from, mask}
+use Rattle.run_script.specs.Names.{named, kind_names, cond_names, event_names, class_names, rw_names, ask_names, names_of, bit_named, mask_from, mask}
 use Rattle.run_script.specs.Grammar.{SpellsList, SpellsBits}
-use Rattle.run_script.proofs.Signs.{Free, IsPlain, is_plain, AllFree, free_plain, free_texts, free_joined, pieces_joined}
+use Rattle.run_script.proofs.Signs.{Free, IsPlain, AllFree, free_plain, free_texts, pieces_joined}
+use Rattle.run_script.proofs.Signs.{Each, Takes, each_plain, each_texts, each_joined}
 
 -- which way a test went
 pub chosen : {A : Type 0} (b : Bool) (x y z : A) → cond b x y ≡ z → ((b ≡ true) × (x ≡ z)) ⊎ ((b ≡ false) × (y ≡ z))
@@ -56,6 +57,9 @@ kinds_read =
 pub conds_read : ReadsNames cond_names
 conds_read = reads_names cond_names
     ((refl, refl), ((refl, refl), ((refl, refl), ((refl, refl), ((refl, refl), ((refl, refl), ((refl, refl), ((refl, refl), tt))))))))
+
+pub asks_read : ReadsNames ask_names
+asks_read = reads_names ask_names ((refl, refl), ((refl, refl), tt))
 
 pub rws_read : ReadsNames rw_names
 rws_read = reads_names rw_names ((refl, refl), ((refl, refl), ((refl, refl), tt)))
@@ -136,10 +140,10 @@ mask_reads names bits text s =
     ap (mask_from names 0) (list_pieces slash (Bits names) free s.each text s.list)
     ∙ (mask_each names 0 s.each s.list.texts s.list.each ∙ ap (λ n. Some n) (sym s.together))
 
--- names between slashes have no other sign
-pub bits_free : (c : ℕ) → Free c (slash ∷ []) → is_plain c ≡ false → (names : Names) (bits : ℕ) (text : List ℕ)
-    → SpellsBits (names_of names) bits text → Free c text
-bits_free c other sign names bits text s =
-    let free = λ (x : ℕ) (t : List ℕ) (h : Bits names x t). free_plain c t sign ((names_read names).plain x t h) in
-    subst (λ t. Free c t) (sym s.list.joined)
-    (free_joined c slash other s.list.texts (free_texts c (Bits names) free s.each s.list.texts s.list.each))
+-- what plain bytes and slashes pass, names between slashes do
+pub bits_each : (p : ℕ → Bool) → Each p (slash ∷ []) → Takes p → (names : Names) (bits : ℕ) (text : List ℕ)
+    → SpellsBits (names_of names) bits text → Each p text
+bits_each p sign takes names bits text s =
+    let passes = λ (x : ℕ) (t : List ℕ) (h : Bits names x t). each_plain p t takes ((names_read names).plain x t h) in
+    subst (λ t. Each p t) (sym s.list.joined)
+    (each_joined p slash sign s.list.texts (each_texts p (Bits names) passes s.each s.list.texts s.list.each))

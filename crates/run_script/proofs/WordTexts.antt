@@ -1,5 +1,5 @@
 -- A word is read as what its text spells, where its parts keep the rules.
-use Rattle.std.proofs.Common.{◌≡◌, ◌≤◌, ◌+◌, ◌∷◌, [], ◌++◌, ◌∙◌, ℕ, max, Bool, List, Ok, refl, sym, ap}
+use Rattle.std.proofs.Common.{◌≡◌, ◌≤◌, ◌+◌, ◌∷◌, [], ◌++◌, ◌∙◌, ℕ, max, Bool, codes, List, Ok, refl, sym, ap}
 use Rattle.std.proofs.Common.{subst, arith, cond, length, map, append_assoc, length-append, inl, inr}
 use Rattle.std.specs.List.{AllZip, AllByRecursion}
 use Rattle.std.proofs.lemmas.Bool.{cases_Bool}
@@ -12,14 +12,14 @@ use Rattle.run_script.specs.declared.heads.Head.{Head}
 use Rattle.run_script.specs.declared.heads.Head.TheVariants.{Boxed, Inline, When}
 use Rattle.run_script.specs.declared.items.Items.{Items}
 use Rattle.run_script.specs.Bytes.{plus, comma, pieces}
-use Rattle.run_script.specs.Heads.{act_of, entries_of}
+use Rattle.run_script.specs.Heads.{act_of, does_call, entries_of}
 use Rattle.run_script.specs.Words.{next, with_part, parts_from, spelt}
 use Rattle.run_script.specs.Grammar.{Part, SpellsItem, SpellsPart, SpellsWord}
 use Rattle.run_script.specs.Parts.{items_of, part_sub, entries_in, set_of, KeepsItemRules, KeepsRules}
-use Rattle.run_script.proofs.Signs.{Free, free_texts, free_cons, free_joined}
+use Rattle.run_script.proofs.Signs.{Free, Each, other, Takes, differs, each_texts, each_cons, each_joined}
 use Rattle.run_script.proofs.Tables.{list_spelt, list_pieces}
-use Rattle.run_script.proofs.ItemTexts.{item_free}
-use Rattle.run_script.proofs.HeadTexts.{head_free, calls_box}
+use Rattle.run_script.proofs.ItemTexts.{item_each}
+use Rattle.run_script.proofs.HeadTexts.{head_each}
 use Rattle.run_script.proofs.PartTexts.{next_ok, HasRoom, with_one, part_reads, part_spelt}
 
 -- a set with more parts
@@ -45,19 +45,19 @@ with_next set part parts =
 abbrev one_if : Bool → ℕ
 one_if b = cond b 1 0
 
-head_weighs : (head : Head) (items : Items) → calls (act_of head items) ≡ calls_box head
+head_weighs : (head : Head) (items : Items) → calls (act_of head items) ≡ does_call head
 head_weighs (Boxed kind) items = refl
 head_weighs (Inline op entry imm) items = refl
 head_weighs (When cond entry imm kind) items = refl
 
 -- how many call, one part at a time
 calling_more : (part : Part) (parts : List Part)
-    → calling (map part_sub (part ∷ parts)) ≡ cond (calls_box part.head) 1 0 + calling (map part_sub parts)
+    → calling (map part_sub (part ∷ parts)) ≡ cond (does_call part.head) 1 0 + calling (map part_sub parts)
 calling_more part parts =
     sum_by-cons (λ s. cond (calls s.act) 1 0) (part_sub part) (map part_sub parts)
     ∙ ap (λ b. cond b 1 0 + calling (map part_sub parts)) (head_weighs part.head (items_of part.items))
 
-calling_one : (set : SetSpec) (part : Part) → calling (with_one set part).subs ≡ calling set.subs + cond (calls_box part.head) 1 0
+calling_one : (set : SetSpec) (part : Part) → calling (with_one set part).subs ≡ calling set.subs + cond (does_call part.head) 1 0
 calling_one set part =
     sum_by_push (λ s. cond (calls s.act) 1 0) set.subs (part_sub part)
     ∙ ap (λ b. calling set.subs + cond b 1 0) (head_weighs part.head (items_of part.items))
@@ -118,7 +118,7 @@ fits_more set part parts room fits = record {
 
 calling_fits : (set : SetSpec) (part : Part) → calling set.subs ≤ 2 → HasRoom set part.head → calling (with_one set part).subs ≤ 2
 calling_fits set part low room =
-    elim (cases_Bool (calls_box part.head)) [
+    elim (cases_Bool (does_call part.head)) [
       | inl is ↦ omega (arith, calling_one set part, ap one_if is, room.boxes is)
       | inr none ↦ omega (arith, calling_one set part, ap one_if none)
     ]
@@ -158,11 +158,23 @@ no_parts = record { entries = 0; subs = [] }
 all_of : (parts : List Part) → with_more no_parts parts ≡ set_of parts
 all_of parts = made_set (max 0 (entries_in parts)) (entries_in parts) (map part_sub parts) (map part_sub parts) (omega arith) refl
 
+-- what plain bytes and the signs in parts pass, parts do
+part_each : (p : ℕ → Bool) → Takes p → Each p (codes ",") → Each p (codes ":") → Each p (codes "=") → Each p (codes "/") → Each p (codes "-")
+    → (part : Part) (text : List ℕ) → SpellsPart part text → Each p text
+part_each p takes commas colons equal slashes dashes part text s =
+    let items = each_texts p SpellsItem (λ x t h. item_each p takes slashes dashes equal x t h) part.items s.items s.items_spelt in
+    let head = head_each p takes colons part.head s.head s.head_spelt in
+    subst (λ t. Each p t) (sym s.joined) (each_joined p comma commas (s.head ∷ s.items) (each_cons p s.head s.items head items))
+
 pub part_free : (part : Part) (text : List ℕ) → SpellsPart part text → Free plus text
-part_free part text s =
-    let items = free_texts plus SpellsItem (λ x t h. item_free plus refl refl refl refl x t h) part.items s.items s.items_spelt in
-    let head = head_free plus refl refl part.head s.head s.head_spelt in
-    subst (λ t. Free plus t) (sym s.joined) (free_joined plus comma refl (s.head ∷ s.items) (free_cons plus s.head s.items head items))
+part_free part text s = part_each (other plus) (differs plus refl) refl refl refl refl refl part text s
+
+-- what plain bytes and all signs of words pass, words do
+pub word_each : (p : ℕ → Bool) → Takes p → Each p (codes "+") → Each p (codes ",") → Each p (codes ":") → Each p (codes "=")
+    → Each p (codes "/") → Each p (codes "-") → (parts : List Part) (text : List ℕ) → SpellsWord parts text → Each p text
+word_each p takes pluses commas colons equal slashes dashes parts text s =
+    let each = each_texts p SpellsPart (λ x t h. part_each p takes commas colons equal slashes dashes x t h) parts s.texts s.each in
+    subst (λ t. Each p t) (sym s.joined) (each_joined p plus pluses s.texts each)
 
 -- each word of the grammar that keeps the rules is read as its parts
 pub word_reads : (parts : List Part) (text : List ℕ) → SpellsWord parts text → KeepsRules parts → spelt text ≡ Ok (set_of parts)

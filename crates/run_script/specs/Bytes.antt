@@ -1,6 +1,12 @@
--- The signs of words, and cutting a text at a byte.
+-- The signs of words and scripts, and cutting a text at a byte.
 use Rattle.std.specs.Prelude.{ℕ, ◌==◌, nat_lt, if◌then◌else◌, List, length, reverse, position, Option, Some, None}
 use Rattle.std.specs.List.{slice_split, before_first, after_first, position_or_len}
+
+abbrev pub space : ℕ
+space = 32
+
+abbrev pub hash : ℕ
+hash = 35
 
 abbrev pub plus : ℕ
 plus = 43

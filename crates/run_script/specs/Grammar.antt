@@ -6,13 +6,14 @@ use Rattle.std.specs.Prelude.{length, fold, Contains, Some}
 use Rattle.std.specs.List.{AllZip, join_with_byte}
 use Rattle.flat_model.specs.declared.plugins.Op.{Op}
 use Rattle.flat_model.specs.declared.plugins.Op.TheVariants.{Add, Store}
+use Rattle.flat_model.specs.declared.limits.TheConstants.{ENTRIES_MOST}
 use Rattle.run_script.specs.declared.heads.Head.{Head}
 use Rattle.run_script.specs.declared.heads.Head.TheVariants.{Boxed, Inline, When}
 use Rattle.run_script.specs.declared.items.Item.{Item}
-use Rattle.run_script.specs.declared.items.Item.TheVariants.{Kinds, Pc, Class, Rw, Then}
+use Rattle.run_script.specs.declared.items.Item.TheVariants.{Kinds, Pc, Class, Rw, Quota, Asks, Then}
 use Rattle.run_script.specs.Bytes.{plus, comma, slash}
 use Rattle.run_script.specs.Numbers.{digit}
-use Rattle.run_script.specs.Names.{kind_names, cond_names, event_names, class_names, rw_names}
+use Rattle.run_script.specs.Names.{kind_names, cond_names, event_names, class_names, rw_names, ask_names}
 
 -- a part of a word: a head and its items
 pub record Part : Type 0 where
@@ -42,10 +43,10 @@ pub record SpellsDigits (base most n : ℕ) (text : List ℕ) : Type 0 where
 abbrev pub SpellsNum : ℕ → List ℕ → Type 0
 SpellsNum n text = SpellsDigits 10 20 n text
 
--- entry = num, at most 63
+-- entry = num, below the most entries of a set
 pub record SpellsEntry (n : ℕ) (text : List ℕ) : Type 0 where
   pub num : SpellsNum n text
-  pub small : n ≤ 63
+  pub small : n < ENTRIES_MOST
 
 -- hex = 1*16HEXDIG
 abbrev pub SpellsHex : ℕ → List ℕ → Type 0
@@ -75,14 +76,18 @@ item_name (Kinds bits) = codes "kinds"
 item_name (Pc span) = codes "pc"
 item_name (Class bits) = codes "class"
 item_name (Rw rw) = codes "rw"
+item_name (Quota n) = codes "quota"
+item_name (Asks ask) = codes "ask"
 item_name (Then n) = codes "then"
 
--- names / hex "-" hex / names / rw / num
+-- names / hex "-" hex / names / rw / num / ask / num
 abbrev pub SpellsValue : Item → List ℕ → Type 0
 SpellsValue (Kinds bits) text = SpellsBits event_names bits text
 SpellsValue (Pc span) text = (lo hi : List ℕ) × SpellsHex span.lo lo × SpellsHex span.hi hi × (text ≡ lo ++ (codes "-" ++ hi))
 SpellsValue (Class bits) text = SpellsBits class_names bits text
 SpellsValue (Rw rw) text = Contains rw_names (rw, text)
+SpellsValue (Quota n) text = SpellsNum n text
+SpellsValue (Asks ask) text = Contains ask_names (ask, text)
 SpellsValue (Then n) text = SpellsNum n text
 
 -- item = name "=" value

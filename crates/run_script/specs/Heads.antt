@@ -1,11 +1,15 @@
 -- The head of a part, and the subscription that a part spells.
-use Rattle.std.specs.Prelude.{ℕ, ◌+◌, ◌-◌, ◌^◌, ◌%◌, ◌≤◌, ◌&&◌, ◌||◌, codes, Bool, true, false}
-use Rattle.std.specs.Prelude.{if◌then◌else◌, List, length, take, drop, Option, Some, None, is_some, unwrap_or, Result, Ok, Err, refl}
+use Rattle.std.specs.Prelude.{ℕ, ◌+◌, ◌-◌, ◌^◌, ◌<◌, ◌&&◌, ◌||◌, codes, Bool, true, false}
+use Rattle.std.specs.Prelude.{if◌then◌else◌, List, length, take, drop, Option, Some, None, is_some, unwrap_or, Result, Ok, Err, suc}
 use Rattle.std.specs.Str.{bytes_eq}
 use Rattle.flat_model.specs.declared.plugins.KindName.{KindName}
 use Rattle.flat_model.specs.declared.plugins.KindName.TheVariants.{Counts, Hot, Mem, Exec, Classes, Pages, Own}
 use Rattle.flat_model.specs.declared.plugins.Kind.{Kind}
-use Rattle.flat_model.specs.declared.plugins.Ask.TheVariants.{Stay}
+use Rattle.flat_model.specs.declared.plugins.Ask.{Ask}
+use Rattle.flat_model.specs.declared.plugins.Ask.TheVariants.{Reset, Uninstall}
+use Rattle.flat_model.specs.declared.limits.TheConstants.{ENTRIES_MOST, KINDS_ALL, KIND_BLOCK, KIND_INSN, KIND_MEM}
+use Rattle.flat_model.specs.declared.limits.TheConstants.{CLASSES_ALL, READS_AND_WRITES}
+use Rattle.flat_model.specs.Kinds.{staying, resetting, uninstalling}
 use Rattle.flat_model.specs.declared.plugins.Op.{Op}
 use Rattle.flat_model.specs.declared.plugins.Op.TheVariants.{Add, Store}
 use Rattle.flat_model.specs.declared.plugins.Cond.{Cond}
@@ -91,40 +95,48 @@ is_when (Boxed kind) = false
 is_when (Inline op entry imm) = false
 is_when (When cond entry imm kind) = true
 
--- a kind without a quota
-abbrev pub plain : KindName → Kind
-plain name = record { name = name; quota = 0; ask = Stay; asks_at_quota = refl }
+-- whether the act of a head calls a box
+abbrev pub does_call : Head → Bool
+does_call (Boxed kind) = true
+does_call (Inline op entry imm) = false
+does_call (When cond entry imm kind) = true
+
+-- the kind of a name, which asks at its quota where both are given
+abbrev pub kind_of : KindName → Option ℕ → Option Ask → Kind
+kind_of name (Some (suc q)) (Some Reset) = resetting name q
+kind_of name (Some (suc q)) (Some Uninstall) = uninstalling name q
+kind_of name _ _ = staying name
 
 -- the events that a kind hears where no item says them
 abbrev pub kind_events : KindName → ℕ
-kind_events Counts = 127
-kind_events Hot = 2
-kind_events Mem = 8
-kind_events Exec = 4
-kind_events Classes = 4
-kind_events Pages = 8
-kind_events (Own n) = 4
+kind_events Counts = KINDS_ALL
+kind_events Hot = KIND_BLOCK
+kind_events Mem = KIND_MEM
+kind_events Exec = KIND_INSN
+kind_events Classes = KIND_INSN
+kind_events Pages = KIND_MEM
+kind_events (Own n) = KIND_INSN
 
 abbrev pub usual_events : Head → ℕ
 usual_events (Boxed kind) = kind_events kind
-usual_events (Inline op entry imm) = 4
-usual_events (When cond entry imm kind) = 4
+usual_events (Inline op entry imm) = KIND_INSN
+usual_events (When cond entry imm kind) = KIND_INSN
 
 abbrev pub act_of : Head → Items → Act
-act_of (Boxed kind) items = acts.Call (plain kind)
+act_of (Boxed kind) items = acts.Call (kind_of kind items.quota items.ask)
 act_of (Inline op entry imm) items = acts.Inline op entry imm
-act_of (When cond entry imm kind) items = acts.Cond cond entry imm items.then_store (plain kind)
+act_of (When cond entry imm kind) items = acts.Cond cond entry imm items.then_store (kind_of kind items.quota items.ask)
 
 -- the filter of the items, with its defaults
 abbrev pub filter_of : Head → Items → Filter
 filter_of head items =
     let span = unwrap_or items.pc (record { lo = 0; hi = 2 ^ 64 - 1 }) in
     record {
-      kinds = unwrap_or items.kinds (usual_events head) % 256;
+      kinds = unwrap_or items.kinds (usual_events head);
       lo = span.lo;
       hi = span.hi;
-      classes = unwrap_or items.classes 511;
-      rw = unwrap_or items.rw 3;
+      classes = unwrap_or items.classes CLASSES_ALL;
+      rw = unwrap_or items.rw READS_AND_WRITES;
     }
 
 abbrev pub sub_of : Head → Items → Sub
@@ -136,8 +148,8 @@ entries_of (Boxed kind) = 0
 entries_of (Inline op entry imm) = entry + 1
 entries_of (When cond entry imm kind) = entry + 1
 
--- an entry is at most 63
+-- an entry is below the most entries of a set
 abbrev pub EntryFits : Head → Type 0
 EntryFits (Boxed kind) = Unit {0}
-EntryFits (Inline op entry imm) = entry ≤ 63
-EntryFits (When cond entry imm kind) = entry ≤ 63
+EntryFits (Inline op entry imm) = entry < ENTRIES_MOST
+EntryFits (When cond entry imm kind) = entry < ENTRIES_MOST

@@ -6,3 +6,7 @@ pub mod Heads
 pub mod Words
 pub mod Grammar
 pub mod Parts
+pub mod Texts
+pub mod Fields
+pub mod Scripts
+pub mod ScriptGrammar

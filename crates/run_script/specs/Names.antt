@@ -1,10 +1,14 @@
--- The names of kinds, conditions, events, classes and directions, each beside what it stands for. An event and a
+-- The names of kinds, conditions, events, classes, directions and asks, each beside what it stands for. An event and a
 -- class have the bit of their filter.
 use Rattle.std.specs.Prelude.{ℕ, codes, bit_or, bytes_eq, if◌then◌else◌, List, [], ◌∷◌, Option, Some, None, option_and_then}
 use Rattle.flat_model.specs.declared.plugins.KindName.{KindName}
 use Rattle.flat_model.specs.declared.plugins.KindName.TheVariants.{Counts, Hot, Mem, Exec, Classes, Pages}
 use Rattle.flat_model.specs.declared.plugins.Cond.{Cond}
 use Rattle.flat_model.specs.declared.plugins.Cond.TheVariants.{Never, Always, Eq, Ne, Lt, Le, Gt, Ge}
+use Rattle.flat_model.specs.declared.plugins.Ask.{Ask}
+use Rattle.flat_model.specs.declared.plugins.Ask.TheVariants.{Reset, Uninstall}
+use Rattle.flat_model.specs.declared.limits.TheConstants.{KIND_INIT, KIND_BLOCK, KIND_INSN, KIND_MEM, KIND_SYS, KIND_SYSRET, KIND_EXIT}
+use Rattle.flat_model.specs.declared.limits.TheConstants.{READS, WRITES, READS_AND_WRITES}
 use Rattle.run_script.specs.declared.names.Names.{Names}
 use Rattle.run_script.specs.declared.names.Names.TheVariants as names
 use Rattle.run_script.specs.Bytes.{slash, pieces}
@@ -21,8 +25,8 @@ cond_names =
 
 abbrev pub event_names : List (ℕ × List ℕ)
 event_names =
-    (1, codes "init") ∷ (2, codes "block") ∷ (4, codes "insn") ∷ (8, codes "mem")
-    ∷ (16, codes "sys") ∷ (32, codes "sysret") ∷ (64, codes "exit") ∷ []
+    (KIND_INIT, codes "init") ∷ (KIND_BLOCK, codes "block") ∷ (KIND_INSN, codes "insn") ∷ (KIND_MEM, codes "mem")
+    ∷ (KIND_SYS, codes "sys") ∷ (KIND_SYSRET, codes "sysret") ∷ (KIND_EXIT, codes "exit") ∷ []
 
 abbrev pub class_names : List (ℕ × List ℕ)
 class_names =
@@ -31,7 +35,11 @@ class_names =
 
 -- loads, stores or both
 abbrev pub rw_names : List (ℕ × List ℕ)
-rw_names = (1, codes "r") ∷ (2, codes "w") ∷ (3, codes "rw") ∷ []
+rw_names = (READS, codes "r") ∷ (WRITES, codes "w") ∷ (READS_AND_WRITES, codes "rw") ∷ []
+
+-- what is asked for at a quota
+abbrev pub ask_names : List (Ask × List ℕ)
+ask_names = (Reset, codes "reset") ∷ (Uninstall, codes "uninstall") ∷ []
 
 -- what a text names in a table
 abbrev pub named : {A : Type 0} → List (A × List ℕ) → List ℕ → Option A
@@ -47,6 +55,11 @@ cond_named text = named cond_names text
 abbrev pub names_of : Names → List (ℕ × List ℕ)
 names_of names.Events = event_names
 names_of names.Classes = class_names
+
+-- how many bits a list of names has room for
+abbrev pub width : Names → ℕ
+width names.Events = 8
+width names.Classes = 16
 
 abbrev pub bit_named : Names → List ℕ → Option ℕ
 bit_named names text = named (names_of names) text

@@ -1,6 +1,7 @@
 -- Numbers in words: decimal ones of 1 to 20 digits, and hexadecimal ones of 1 to 16 digits of either case.
 use Rattle.std.specs.Prelude.{ℕ, ◌+◌, ◌-◌, ◌*◌, ◌^◌, ◌==◌, ◌&&◌, nat_lt, nat_le, if◌then◌else◌, List, []}
 use Rattle.std.specs.Prelude.{◌∷◌, length, Option, Some, None, option_and_then}
+use Rattle.flat_model.specs.declared.limits.TheConstants.{ENTRIES_MOST}
 
 -- the value of a digit in a base of 10 or 16
 abbrev pub digit : ℕ → ℕ → Option ℕ
@@ -24,6 +25,6 @@ read_on base n (b ∷ bs) =
 abbrev pub number : ℕ → ℕ → List ℕ → Option ℕ
 number base most text = if nat_lt 0 (length text) && nat_le (length text) most then read_on base 0 text else None
 
--- the number of an entry, at most 63
+-- the number of an entry, below the most entries of a set
 abbrev pub entry_number : List ℕ → Option ℕ
-entry_number text = option_and_then (λ n. if nat_le n 63 then Some n else None) (number 10 20 text)
+entry_number text = option_and_then (λ n. if nat_lt n ENTRIES_MOST then Some n else None) (number 10 20 text)

@@ -1,10 +1,12 @@
 //! The head of a part, and the subscription that a part spells.
 
-ghost use Rattle.std.specs.Prelude.{◌≡◌, ◌≤◌, IfOk};
+ghost use Rattle.std.specs.Prelude.{◌≡◌, ◌<◌, IfOk};
 ghost use Rattle.std.specs.Option.{ForSome};
 ghost use Rattle.run_script.specs.Bytes.{colon, tail_len};
 ghost use Rattle.run_script.specs.Heads.{inline_of, inline_head, when_of, when_numbers, when_named, when_tail, when_head, worded_head};
-ghost use Rattle.run_script.specs.Heads.{head_of, calls_a_box, is_when, plain, kind_events, usual_events, act_of, filter_of, sub_of};
+ghost use Rattle.run_script.specs.Heads.{head_of, calls_a_box, is_when, does_call, kind_events, usual_events};
+ghost use Rattle.run_script.specs.Heads.{kind_of, act_of, filter_of, sub_of};
+ghost use Rattle.flat_model.specs.declared.limits.TheConstants.{ENTRIES_MOST};
 ghost use Rattle.run_script.specs.Heads.{entries_of, EntryFits};
 
 use crate::bytes::{cut, is, tail_len};
@@ -12,9 +14,12 @@ use crate::items::{Items, Span};
 use crate::names::{cond_named, kind_named};
 use crate::numbers::{DECIMAL, DECIMAL_DIGITS, entry_number, number};
 use crate::refusals::SpecRule;
+use flat_model::limits::{
+    CLASSES_ALL, KIND_BLOCK, KIND_INSN, KIND_MEM, KINDS_ALL, READS_AND_WRITES,
+};
 use flat_model::{Act, Ask, Cond, Filter, Kind, KindName, Op, Sub};
 
-/// A head. An entry is at most 63.
+/// A head. An entry is below `ENTRIES_MOST`.
 #[derive(Clone, Copy)]
 pub enum Head {
     Boxed(KindName),
@@ -32,7 +37,7 @@ pub enum Head {
 }
 
 fn inline_of(op: Op, entry: Option<u8>, imm: Option<u64>) -> Result<Head, SpecRule>
-    requires { ForSome entry (λ n. n ≤ 63) }
+    requires { ForSome entry (λ n. n < ENTRIES_MOST) }
     ensures value { result ≡ inline_of op entry imm }
     ensures small { IfOk result EntryFits }
 {
@@ -64,7 +69,7 @@ fn when_of(
     entry: Option<u8>,
     imm: Option<u64>,
 ) -> Result<Head, SpecRule>
-    requires { ForSome entry (λ n. n ≤ 63) }
+    requires { ForSome entry (λ n. n < ENTRIES_MOST) }
     ensures value { result ≡ when_of cond kind entry imm }
     ensures small { IfOk result EntryFits }
 {
@@ -172,6 +177,16 @@ pub fn is_when(head: Head) -> bool
     }
 }
 
+/// Whether the act of the head calls a box.
+pub fn does_call(head: Head) -> bool
+    ensures { result ≡ does_call head }
+{
+    match head {
+        Head::Boxed(_) | Head::When { .. } => true,
+        Head::Inline { .. } => false,
+    }
+}
+
 /// How many entries a head needs.
 pub fn entries_of(head: Head) -> u8
     requires { EntryFits head }
@@ -183,33 +198,46 @@ pub fn entries_of(head: Head) -> u8
     }
 }
 
-fn plain(name: KindName) -> Kind
-    ensures { result ≡ plain name }
-{
-    Kind {
-        name,
-        quota: 0,
-        ask: Ask::Stay,
-    }
-}
-
-fn kind_events(kind: KindName) -> u16
+fn kind_events(kind: KindName) -> u8
     ensures { result ≡ kind_events kind }
 {
     match kind {
-        KindName::Counts => 127,
-        KindName::Hot => 2,
-        KindName::Mem | KindName::Pages => 8,
-        KindName::Exec | KindName::Classes | KindName::Own { .. } => 4,
+        KindName::Counts => KINDS_ALL,
+        KindName::Hot => KIND_BLOCK,
+        KindName::Mem | KindName::Pages => KIND_MEM,
+        KindName::Exec | KindName::Classes | KindName::Own { .. } => KIND_INSN,
     }
 }
 
-fn usual_events(head: Head) -> u16
+fn usual_events(head: Head) -> u8
     ensures { result ≡ usual_events head }
 {
     match head {
         Head::Boxed(kind) => kind_events(kind),
-        Head::Inline { .. } | Head::When { .. } => 4,
+        Head::Inline { .. } | Head::When { .. } => KIND_INSN,
+    }
+}
+
+// The kind of a name, which asks at its quota.
+fn kind_of(name: KindName, quota: Option<u64>, ask: Option<Ask>) -> Kind
+    ensures { result ≡ kind_of name quota ask }
+{
+    match (quota, ask) {
+        (Some(quota @ 1..), Some(Ask::Reset)) => Kind {
+            name,
+            quota,
+            ask: Ask::Reset,
+        },
+        (Some(quota @ 1..), Some(Ask::Uninstall)) => Kind {
+            name,
+            quota,
+            ask: Ask::Uninstall,
+        },
+        _ => Kind {
+            name,
+            quota: 0,
+            ask: Ask::Stay,
+        },
     }
 }
 
@@ -217,7 +245,9 @@ fn act_of(head: Head, items: Items) -> Act
     ensures { result ≡ act_of head items }
 {
     match head {
-        Head::Boxed(kind) => Act::Call { kind: plain(kind) },
+        Head::Boxed(kind) => Act::Call {
+            kind: kind_of(kind, items.quota, items.ask),
+        },
         Head::Inline { op, entry, imm } => Act::Inline { op, entry, imm },
         Head::When {
             cond,
@@ -229,7 +259,7 @@ fn act_of(head: Head, items: Items) -> Act
             entry,
             imm,
             then_store: items.then_store,
-            kind: plain(kind),
+            kind: kind_of(kind, items.quota, items.ask),
         },
     }
 }
@@ -242,11 +272,11 @@ fn filter_of(head: Head, items: Items) -> Filter
         hi: u64::MAX,
     });
     Filter {
-        kinds: (items.kinds.unwrap_or(usual_events(head)) % 256) as u8,
+        kinds: items.kinds.unwrap_or(usual_events(head)),
         lo: span.lo,
         hi: span.hi,
-        classes: items.classes.unwrap_or(511),
-        rw: items.rw.unwrap_or(3),
+        classes: items.classes.unwrap_or(CLASSES_ALL),
+        rw: items.rw.unwrap_or(READS_AND_WRITES),
     }
 }
 

@@ -1,10 +1,15 @@
 //! The names of kinds, conditions, events and classes.
 
-ghost use Rattle.std.specs.Prelude.{◌≡◌};
-ghost use Rattle.run_script.specs.Names.{event_names, class_names, named, kind_named, cond_named, bit_named, mask};
+ghost use Rattle.std.specs.Prelude.{◌≡◌, ◌<◌, ◌^◌, IfSome};
+ghost use Rattle.run_script.specs.Names.{event_names, class_names, rw_names, ask_names, named, kind_named, cond_named};
+ghost use Rattle.run_script.specs.Names.{width, bit_named, mask};
 
 use crate::bytes::{cut, is};
-use flat_model::{Cond, KindName};
+use flat_model::limits::{
+    KIND_BLOCK, KIND_EXIT, KIND_INIT, KIND_INSN, KIND_MEM, KIND_SYS, KIND_SYSRET, READS,
+    READS_AND_WRITES, WRITES,
+};
+use flat_model::{Ask, Cond, KindName};
 
 /// Which names a list has.
 #[derive(Clone, Copy)]
@@ -59,23 +64,51 @@ pub fn cond_named(text: &[u8]) -> Option<Cond>
     }
 }
 
-fn event_bit(text: &[u8]) -> Option<u16>
+/// Which of loads and stores are heard.
+pub fn direction_named(text: &[u8]) -> Option<u8>
+    ensures { result ≡ named rw_names text.now }
+{
+    if is(text, "r") {
+        Some(READS)
+    } else if is(text, "w") {
+        Some(WRITES)
+    } else if is(text, "rw") {
+        Some(READS_AND_WRITES)
+    } else {
+        None
+    }
+}
+
+/// What is asked for at a quota.
+pub fn ask_named(text: &[u8]) -> Option<Ask>
+    ensures { result ≡ named ask_names text.now }
+{
+    if is(text, "reset") {
+        Some(Ask::Reset)
+    } else if is(text, "uninstall") {
+        Some(Ask::Uninstall)
+    } else {
+        None
+    }
+}
+
+fn event_bit(text: &[u8]) -> Option<u8>
     ensures { result ≡ named event_names text.now }
 {
     if is(text, "init") {
-        Some(1)
+        Some(KIND_INIT)
     } else if is(text, "block") {
-        Some(2)
+        Some(KIND_BLOCK)
     } else if is(text, "insn") {
-        Some(4)
+        Some(KIND_INSN)
     } else if is(text, "mem") {
-        Some(8)
+        Some(KIND_MEM)
     } else if is(text, "sys") {
-        Some(16)
+        Some(KIND_SYS)
     } else if is(text, "sysret") {
-        Some(32)
+        Some(KIND_SYSRET)
     } else if is(text, "exit") {
-        Some(64)
+        Some(KIND_EXIT)
     } else {
         None
     }
@@ -108,18 +141,19 @@ fn class_bit(text: &[u8]) -> Option<u16>
 }
 
 fn bit_named(names: Names, text: &[u8]) -> Option<u16>
-    ensures { result ≡ bit_named names text.now }
+    ensures value { result ≡ bit_named names text.now }
+    ensures small { IfSome result (λ bit. bit < 2 ^ width names) }
 {
     match names {
-        Names::Events => event_bit(text),
+        Names::Events => event_bit(text).map(u16::from),
         Names::Classes => class_bit(text),
     }
 }
 
 /// The bits of the names between slashes.
-#[tactic(auto, using(crate::proofs::Cuts::whole, crate::proofs::Cuts::first_off))]
 pub fn mask(names: Names, text: &[u8]) -> Option<u16>
-    ensures { result ≡ mask names text.now }
+    ensures value { result ≡ mask names text.now }
+    ensures small { IfSome result (λ bits. bits < 2 ^ width names) }
 {
     let mut bits = 0u16;
     let mut rest = Some(text);

@@ -1,7 +1,10 @@
 //! Numbers in words.
 
-ghost use Rattle.std.specs.Prelude.{◌≡◌, ◌<◌, ◌≤◌, ◌^◌, ◌⊎◌, IfSome};
+ghost use Rattle.std.specs.Prelude.{◌≡◌, ◌<◌, IfSome};
+ghost use Rattle.flat_model.specs.declared.limits.TheConstants.{ENTRIES_MOST};
 ghost use Rattle.run_script.specs.Numbers.{digit, with_digit, number, entry_number};
+
+use flat_model::limits::ENTRIES_MOST;
 
 /// The base of decimal numbers, and how many digits they have at most.
 pub const DECIMAL: u64 = 10;
@@ -45,13 +48,13 @@ pub fn number(base: u64, most: usize, text: &[u8]) -> Option<u64>
     Some(n)
 }
 
-/// The number of an entry, at most 63.
+/// The number of an entry, below `ENTRIES_MOST`.
 pub fn entry_number(text: &[u8]) -> Option<u8>
     ensures value { result ≡ entry_number text.now }
-    ensures range { IfSome result (λ n. n ≤ 63) }
+    ensures range { IfSome result (λ n. n < ENTRIES_MOST) }
 {
     let n = number(DECIMAL, DECIMAL_DIGITS, text)?;
-    if n > 63 {
+    if n >= u64::from(ENTRIES_MOST) {
         return None;
     }
     Some(n as u8)
