@@ -1,0 +1,13 @@
+pub mod Same
+pub mod Judge
+pub mod Guests
+pub mod Sets
+pub mod Cases
+pub mod Asks
+pub mod Lines
+pub mod Ends
+pub mod Parks
+pub mod TwoAsks
+pub mod Controls
+pub mod Bounds
+pub mod Hears
