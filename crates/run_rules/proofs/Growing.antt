@@ -51,7 +51,7 @@ place_grows r number p le = record {
 }
 
 -- a plug-in that has just been installed
-abbrev fresh : Plugins → SetSpec → Plugin
+abbrev pub fresh : Plugins → SetSpec → Plugin
 fresh r spec = record { state = Live; sets = spec ∷ []; endings = []; owing = replicate r.harts false }
 
 order_grows : (r : Plugins) (order : Order) → Grows r (after_order order r)

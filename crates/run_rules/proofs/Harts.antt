@@ -60,10 +60,10 @@ starts_keep harts hart shared (Some n) is = same shared
 starts_keep harts hart shared None is = λ j start has.
     elim (cases_Bool (j == a0_of hart)) [
       | inl at ↦
-        let free : shared.starts (a0_of hart) ≡ None =
-        may_none (not (nat_lt (a0_of hart) harts && (a1_of hart % 4 == 0))) (shared.starts (a0_of hart)) is in
-        let taken : shared.starts (a0_of hart) ≡ Some start = ap shared.starts (sym (same_hart j (a0_of hart) at)) ∙ has in
-        absurd cc
+          let free : shared.starts (a0_of hart) ≡ None =
+          may_none (not (nat_lt (a0_of hart) harts && (a1_of hart % 4 == 0))) (shared.starts (a0_of hart)) is in
+          let taken : shared.starts (a0_of hart) ≡ Some start = ap shared.starts (sym (same_hart j (a0_of hart) at)) ∙ has in
+          absurd cc
       | inr off ↦ ap (λ (b : Bool). if b then Some (asked_start hart) else shared.starts j) off ∙ has
     ]
 

@@ -4,4 +4,5 @@ pub mod Lines
 pub mod Harts
 pub mod Openings
 pub mod Growing
+pub mod Fitting
 pub mod Journals

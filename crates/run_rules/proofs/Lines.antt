@@ -129,12 +129,12 @@ falls_within run h n past l sorted none found low =
     ap (λ (r : Plugins). allowed r l.timed.order) (sym (plugins_keep run h (suc n) past)) ∙ rest_true (is_due run now l) _ stands in
     elim (cases_Bool (is_turning h past)) [
       | inl is ↦
-        let from : next_line run past ≤ l.number = omega (arith, next, next_after run h n past ∙ ap (λ (b : Bool). if b then next_line run past else come run past) is) in
-        found_again (must_stand run past) (must_stand run now) (numbered 0 run.plan.script) l found
-        (both_true (both_true (le-leb _ _ from) (le-leb _ _ low)) allows) (owes_no_line run past none)
+          let from : next_line run past ≤ l.number = omega (arith, next, next_after run h n past ∙ ap (λ (b : Bool). if b then next_line run past else come run past) is) in
+          found_again (must_stand run past) (must_stand run now) (numbered 0 run.plan.script) l found
+          (both_true (both_true (le-leb _ _ from) (le-leb _ _ low)) allows) (owes_no_line run past none)
       | inr is ↦
-        let from : come run past ≤ l.number = omega (arith, next, next_after run h n past ∙ ap (λ (b : Bool). if b then next_line run past else come run past) is) in
-        absurd (omega (arith, from, found_counts (must_stand run now) run.plan.script (total_steps past) l sorted found low))
+          let from : come run past ≤ l.number = omega (arith, next, next_after run h n past ∙ ap (λ (b : Bool). if b then next_line run past else come run past) is) in
+          absurd (omega (arith, from, found_counts (must_stand run now) run.plan.script (total_steps past) l sorted found low))
     ]
 
 pub none_is : {A : Type 0} (o : Option A) (x : A) → o ≡ None → o ≡ Some x → ⊥

@@ -89,9 +89,9 @@ waits_within run plugin h n past r none =
     elim (cases_Bool (is_installed r plugin && is_live (plugin_of r plugin).state)) [
       | inr is ↦ inl (rw is refl)
       | inl is ↦ elim (all_within run plugin h n past r (sym (ap (λ (b : Bool). stays (if b then (last_progress run plugin h past r).walk.asked else Stay)) is) ∙ none)) [
-          | inl none ↦ inl (ap (λ (b : Bool). stays (if b then (last_progress run plugin h (steps h n past) r).walk.asked else Stay)) is ∙ none)
-          | inr few ↦ inr few
-        ]
+        | inl none ↦ inl (ap (λ (b : Bool). stays (if b then (last_progress run plugin h (steps h n past) r).walk.asked else Stay)) is ∙ none)
+        | inr few ↦ inr few
+      ]
     ]
 
 -- so the Turn goes on in time
@@ -106,10 +106,10 @@ goes_on run plugin h n past few none =
     elim within [
       | inl none ↦ or_left (stays (waiting run plugin h now)) (nat_lt since turn && nat_lt (since + 1) BLOCK_WORDS) none
       | inr soon ↦
-        let first : since < turn = omega (arith, soon, turn_grows h n past) in
-        let second : since + 1 < BLOCK_WORDS = omega (arith, soon, few) in
-        or_right (stays (waiting run plugin h now)) (nat_lt since turn && nat_lt (since + 1) BLOCK_WORDS)
-        (both_true (lt-ltb since turn first) (lt-ltb (since + 1) BLOCK_WORDS second))
+          let first : since < turn = omega (arith, soon, turn_grows h n past) in
+          let second : since + 1 < BLOCK_WORDS = omega (arith, soon, few) in
+          or_right (stays (waiting run plugin h now)) (nat_lt since turn && nat_lt (since + 1) BLOCK_WORDS)
+          (both_true (lt-ltb since turn first) (lt-ltb (since + 1) BLOCK_WORDS second))
     ]
 
 pub first_true : (x y : Bool) → (x && y) ≡ true → x ≡ true

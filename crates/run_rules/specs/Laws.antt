@@ -16,6 +16,7 @@ use Rattle.flat_model.specs.Registry.{sets_of}
 use Rattle.run_rules.specs.Guest.{Run, run_of, plugins}
 use Rattle.run_rules.specs.Heard.{progress, opening_progress}
 use Rattle.run_rules.specs.Due.{Line, owed_line, is_start, start_orders, missing_install}
+use Rattle.run_rules.specs.Places.{IsStateLog, place_of, fits_in}
 use Rattle.run_rules.specs.Legal.{Legal, is_there, owes_any, asks_nothing, passes_nothing_by, runs}
 
 -- whether an item is a step of hart h
@@ -113,3 +114,10 @@ pub record IsOfItsJournal (m : Machine) (mode : Mode) (plan : Planned) (past : L
 
 abbrev pub LogsAreOfTheirJournals : Type 0
 LogsAreOfTheirJournals = (m : Machine) (mode : Mode) (plan : Planned) (past : List Item) → IsOfItsJournal m mode plan past
+
+-- Where sets are.
+
+-- in a legal log of the state, the place of each plug-in's last set for each hart goes with what the registry says
+abbrev pub PlacesFit : Type 0
+PlacesFit = (run : Run) (plugin h : ℕ) (past : List Item) → 1 ≤ plugin → h < run.harts → Legal run past → IsStateLog run past
+    → fits_in (plugins run past) (place_of run plugin h past) plugin h ≡ true

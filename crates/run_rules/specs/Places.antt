@@ -1,12 +1,15 @@
 -- Where the boxes and columns of a plug-in's sets are, by the log of the state that the harts share: that log has two kinds of
 -- item more than a journal, Got and Took, which tell who took what out of the state.
-use Rattle.std.specs.Prelude.{ℕ, ◌+◌, ◌≡◌, ◌==◌, ◌&&◌, ◌⊎◌, not, Bool, true, false, if◌then◌else◌, List, [], ◌∷◌, length, Option, Some, None}
+use Rattle.std.specs.Prelude.{ℕ, ◌+◌, ◌≡◌, ◌==◌, ◌&&◌, ◌||◌, ◌⊎◌, not, Bool, true, false, if◌then◌else◌, List, [], ◌∷◌, length, Option, Some}
+use Rattle.std.specs.Prelude.{None, slice_index_or}
 use Rattle.std.specs.List.{list_all}
 use Rattle.flat_model.specs.declared.journals.Item.{Item}
 use Rattle.flat_model.specs.declared.journals.Item.TheVariants.{Step, Ordered, GaveBack, Left, Told, Got, Took}
 use Rattle.flat_model.specs.declared.journals.Order.{Order}
 use Rattle.flat_model.specs.declared.journals.Order.TheVariants.{Install, Register, Reset, Uninstall}
-use Rattle.flat_model.specs.Registry.{Plugins, plugin_of, is_complete}
+use Rattle.flat_model.specs.declared.journals.PlugState.{PlugState}
+use Rattle.flat_model.specs.declared.journals.PlugState.TheVariants.{Live, Idle, Resetting, Leaving, Gone}
+use Rattle.flat_model.specs.Registry.{Plugins, plugin_of, is_complete, has_left}
 use Rattle.run_rules.specs.Guest.{Run, plugins}
 use Rattle.run_rules.specs.Heard.{is_live}
 use Rattle.run_rules.specs.Legal.{is_there, numbers}
@@ -144,3 +147,40 @@ StateRule run (Took party plugin) past = (is_complete (plugins run past) plugin 
 unfoldable pub IsStateLog : Run → List Item → Type 0
 IsStateLog run [] = Unit {0}
 IsStateLog run (x ∷ past) = IsStateLog run past × StateRule run x past
+
+-- Which places go with the state of a plug-in, with what the hart owes and with whether it has left: a set waits or is with its hart while
+-- the plug-in is Live, or while it is withdrawn and the hart is still to give it back; a hart that leaves has its sets parked; and only what
+-- is withdrawn goes out.
+abbrev pub fits : Place → PlugState → Bool → Bool → Bool
+fits Nowhere Live owes gone = false
+fits Nowhere Idle owes gone = not owes
+fits Nowhere Resetting owes gone = true
+fits Nowhere Leaving owes gone = true
+fits Nowhere Gone owes gone = not owes
+fits Waiting Live owes gone = not owes
+fits Waiting Idle owes gone = false
+fits Waiting Resetting owes gone = owes || gone
+fits Waiting Leaving owes gone = owes || gone
+fits Waiting Gone owes gone = false
+fits WithHart Live owes gone = not owes && not gone
+fits WithHart Idle owes gone = false
+fits WithHart Resetting owes gone = owes && not gone
+fits WithHart Leaving owes gone = owes && not gone
+fits WithHart Gone owes gone = false
+fits Parked Live owes gone = not owes && gone
+fits Parked Idle owes gone = false
+fits Parked Resetting owes gone = not owes
+fits Parked Leaving owes gone = not owes
+fits Parked Gone owes gone = false
+fits Out Live owes gone = false
+fits Out Idle owes gone = false
+fits Out Resetting owes gone = not owes
+fits Out Leaving owes gone = not owes
+fits Out Gone owes gone = false
+
+-- whether a hart still owes its Back of a plug-in
+abbrev pub owed_by : Plugins → ℕ → ℕ → Bool
+owed_by r plugin h = slice_index_or (plugin_of r plugin).owing h false
+
+abbrev pub fits_in : Plugins → Place → ℕ → ℕ → Bool
+fits_in r place plugin h = fits place (plugin_of r plugin).state (owed_by r plugin h) (has_left r h)

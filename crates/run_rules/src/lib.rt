@@ -3,7 +3,7 @@
 #![tactic(auto)]
 
 ghost use Rattle.run_rules.specs.Laws.{HearsByStepsAlone, HartsMoveByTheirSteps, TurnsAreLegal, LinesAreInTime, OpensAsPlanned};
-ghost use Rattle.run_rules.specs.Laws.{KeepsItsOpening, LaterSetsHearNothing, LogsAreOfTheirJournals};
+ghost use Rattle.run_rules.specs.Laws.{KeepsItsOpening, LaterSetsHearNothing, LogsAreOfTheirJournals, PlacesFit};
 
 /// No item but a step of a hart changes what a set has made of the hart's events.
 #[tactic(auto, using(crate::proofs::Tails::hears_by_steps_alone))]
@@ -42,4 +42,10 @@ pub fn later_sets_hear_nothing()
 /// What the rules make of the shared state's log is what they make of its journal.
 pub fn logs_are_of_their_journals()
     ensures law { LogsAreOfTheirJournals }
+{}
+
+/// In a legal log of the shared state, where a set is goes with what the registry says of its plug-in and the hart.
+#[tactic(auto, using(crate::proofs::Fitting::places_fit))]
+pub fn places_fit()
+    ensures law { PlacesFit }
 {}
