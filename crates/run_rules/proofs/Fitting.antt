@@ -31,13 +31,13 @@ use Rattle.run_rules.proofs.Turns.{first_true, rest_true}
 use Rattle.run_rules.proofs.Growing.{fresh}
 
 -- a plug-in that an item doesn't name stays as it is
-other_place : (r : Plugins) (number plugin : ℕ) (p : Plugin) → 1 ≤ number → 1 ≤ plugin → (number == plugin) ≡ false
+pub other_place : (r : Plugins) (number plugin : ℕ) (p : Plugin) → 1 ≤ number → 1 ≤ plugin → (number == plugin) ≡ false
     → plugin_of (with_plugin r number p) plugin ≡ plugin_of r plugin
 other_place r number plugin p one two off =
     let apart : (plugin - 1) ≢ (number - 1) = λ e. grind (arith, nat_tests, off, e, one, two) in
     get_or-set_other r.plugins (number - 1) (plugin - 1) p no_plugin apart
 
-same_place : (r : Plugins) (number : ℕ) (p : Plugin) → number - 1 < length r.plugins → plugin_of (with_plugin r number p) number ≡ p
+pub same_place : (r : Plugins) (number : ℕ) (p : Plugin) → number - 1 < length r.plugins → plugin_of (with_plugin r number p) number ≡ p
 same_place r number p within = get_or-set_same r.plugins (number - 1) p no_plugin within
 
 -- How fitting places change.
@@ -214,7 +214,7 @@ none_refused None is = refl
 none_refused (Some why) is = absurd (false≢true is)
 
 -- the state table allows an order that the registry allows
-abbrev Admits : Plugins → Order → ℕ → Type 0
+abbrev pub Admits : Plugins → Order → ℕ → Type 0
 Admits r order number = (is_installed r number ≡ true) × (is_some (next_state order (plugin_of r number).state) ≡ true)
 
 admits : (r : Plugins) (order : Order) (number : ℕ) → state_refusal r order number ≡ None → Admits r order number
@@ -225,7 +225,7 @@ admits r order number none =
     (NoPlugin number (length r.plugins)) none in
     (both.0, not_false (is_some (next_state order p.state)) (if_none _ (State number p.state) both.1))
 
-register_admitted : (r : Plugins) (number : ℕ) (spec : SetSpec) → allowed r (Register number spec) ≡ true → Admits r (Register number spec) number
+pub register_admitted : (r : Plugins) (number : ℕ) (spec : SetSpec) → allowed r (Register number spec) ≡ true → Admits r (Register number spec) number
 unfolding refusal
 register_admitted r number spec is =
     admits r (Register number spec) number
@@ -239,16 +239,16 @@ uninstall_admitted : (r : Plugins) (number : ℕ) → allowed r (Uninstall numbe
 unfolding refusal
 uninstall_admitted r number is = admits r (Uninstall number) number (none_refused (state_refusal r (Uninstall number) number) is)
 
-installed_from : (r : Plugins) (number : ℕ) → is_installed r number ≡ true → 1 ≤ number
+pub installed_from : (r : Plugins) (number : ℕ) → is_installed r number ≡ true → 1 ≤ number
 installed_from r number is = ltb-true 0 number (first_true _ _ is)
 
-installed_within : (r : Plugins) (number : ℕ) → is_installed r number ≡ true → number - 1 < length r.plugins
+pub installed_within : (r : Plugins) (number : ℕ) → is_installed r number ≡ true → number - 1 < length r.plugins
 installed_within r number is =
     let low : 1 ≤ number = installed_from r number is in
     let high : number ≤ length r.plugins = leb-true number (length r.plugins) (rest_true (nat_lt 0 number) _ is) in
     omega (arith, low, high)
 
-append_other : (ps : List Plugin) (x : Plugin) (i : ℕ) → i ≢ length ps → slice_index_or (ps ++ x ∷ []) i no_plugin ≡ slice_index_or ps i no_plugin
+pub append_other : (ps : List Plugin) (x : Plugin) (i : ℕ) → i ≢ length ps → slice_index_or (ps ++ x ∷ []) i no_plugin ≡ slice_index_or ps i no_plugin
 append_other [] x zero off = absurd (off refl)
 append_other [] x (suc i) off = refl
 append_other (p ∷ ps) x zero off = refl
@@ -284,7 +284,7 @@ named r q before after p plugin h is gone f =
     ap (λ (x : Plugin). fits after x.state (slice_index_or x.owing h false) (has_left q h)) is
     ∙ ap (λ (g : Bool). fits after p.state (slice_index_or p.owing h false) g) gone ∙ f
 
-number_is : (a b : ℕ) → (a == b) ≡ true → a ≡ b
+pub number_is : (a b : ℕ) → (a == b) ≡ true → a ≡ b
 number_is a b is = grind (arith, nat_tests, is)
 
 -- Each kind of item keeps what fits.
@@ -393,7 +393,7 @@ back_keeps r k q place plugin h one owed f =
           ]
     ]
 
-left_at : (k : ℕ) (ps : List Plugin) (i : ℕ) → slice_index_or (map (without_hart k) ps) i no_plugin ≡ without_hart k (slice_index_or ps i no_plugin)
+pub left_at : (k : ℕ) (ps : List Plugin) (i : ℕ) → slice_index_or (map (without_hart k) ps) i no_plugin ≡ without_hart k (slice_index_or ps i no_plugin)
 left_at k [] i = refl
 left_at k (p ∷ ps) zero = refl
 left_at k (p ∷ ps) (suc i) = left_at k ps i
@@ -409,7 +409,7 @@ any_none f a (suc n) k none low high =
           any_none f (a + 1) n k (or_parts (f a) (list_any f (range_with_len (a + 1) n)) none).1 above (omega (arith, high))
     ]
 
-beyond : (ps : List Plugin) (i : ℕ) → length ps ≤ i → slice_index_or ps i no_plugin ≡ no_plugin
+pub beyond : (ps : List Plugin) (i : ℕ) → length ps ≤ i → slice_index_or ps i no_plugin ≡ no_plugin
 beyond [] i far = refl
 beyond (p ∷ ps) zero far = absurd (omega (arith, far))
 beyond (p ∷ ps) (suc i) far = beyond ps i (omega (arith, far))
@@ -461,10 +461,10 @@ all_false (b ∷ bs) zero none = (or_parts b (list_any (λ c. c) bs) none).0
 all_false (b ∷ bs) (suc h) none = all_false bs h (or_parts b (list_any (λ c. c) bs) none).1
 
 -- a plug-in that is complete is being withdrawn, and no hart owes it
-abbrev Complete : Plugins → ℕ → ℕ → Type 0
+abbrev pub Complete : Plugins → ℕ → ℕ → Type 0
 Complete r q h = (is_installed r q ≡ true) × (is_closing (plugin_of r q).state ≡ true) × (owed_by r q h ≡ false)
 
-complete : (r : Plugins) (q h : ℕ) → is_complete r q ≡ true → Complete r q h
+pub complete : (r : Plugins) (q h : ℕ) → is_complete r q ≡ true → Complete r q h
 complete r q h is =
     let rest : (is_closing (plugin_of r q).state && not (list_any (λ b. b) (plugin_of r q).owing)) ≡ true = rest_true (is_installed r q) _ is in (
       first_true (is_installed r q) _ is,

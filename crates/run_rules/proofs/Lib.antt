@@ -5,4 +5,5 @@ pub mod Harts
 pub mod Openings
 pub mod Growing
 pub mod Fitting
+pub mod Keeping
 pub mod Journals

@@ -8,7 +8,7 @@ use Rattle.flat_model.specs.declared.limits.TheConstants.{BLOCK_WORDS}
 use Rattle.flat_model.specs.declared.journals.Mode.{Mode}
 use Rattle.flat_model.specs.declared.journals.Order.{Order}
 use Rattle.flat_model.specs.declared.journals.Order.TheVariants.{Install, Register, Reset, Uninstall}
-use Rattle.flat_model.specs.Log.{steps, total_steps, journaled}
+use Rattle.flat_model.specs.Log.{steps, total_steps, journaled, party}
 use Rattle.flat_model.specs.Plan.{Planned}
 use Rattle.flat_model.specs.World.{Machine, Start}
 use Rattle.flat_model.specs.Worlds.{world, hart_of}
@@ -16,7 +16,7 @@ use Rattle.flat_model.specs.Registry.{sets_of}
 use Rattle.run_rules.specs.Guest.{Run, run_of, plugins}
 use Rattle.run_rules.specs.Heard.{progress, opening_progress}
 use Rattle.run_rules.specs.Due.{Line, owed_line, is_start, start_orders, missing_install}
-use Rattle.run_rules.specs.Places.{IsStateLog, place_of, fits_in}
+use Rattle.run_rules.specs.Places.{IsStateLog, place_of, is_with_hart, fits_in}
 use Rattle.run_rules.specs.Legal.{Legal, is_there, owes_any, asks_nothing, passes_nothing_by, runs}
 
 -- whether an item is a step of hart h
@@ -121,3 +121,19 @@ LogsAreOfTheirJournals = (m : Machine) (mode : Mode) (plan : Planned) (past : Li
 abbrev pub PlacesFit : Type 0
 PlacesFit = (run : Run) (plugin h : ℕ) (past : List Item) → 1 ≤ plugin → h < run.harts → Legal run past → IsStateLog run past
     → fits_in (plugins run past) (place_of run plugin h past) plugin h ≡ true
+
+-- items of other parties than hart h
+abbrev pub AreOfOthers : ℕ → List Item → Type 0
+AreOfOthers h [] = Unit {0}
+AreOfOthers h (x ∷ xs) = ((party x == h) ≡ false) × AreOfOthers h xs
+
+-- the set of a plug-in that a hart has, in a log that goes on: it is still with the hart, it is the same, and it has heard nothing more
+pub record KeepsSet (run : Run) (plugin h : ℕ) (past now : List Item) : Type 0 where
+  pub there : is_with_hart (place_of run plugin h now) ≡ is_with_hart (place_of run plugin h past)
+  pub sets : is_with_hart (place_of run plugin h past) ≡ true → sets_of (plugins run now) plugin ≡ sets_of (plugins run past) plugin
+  pub heard : (spec : SetSpec) (set : ℕ) → progress run spec plugin set h now ≡ progress run spec plugin set h past
+
+-- items of other parties neither bring a hart a set nor take one from it, and let none hear
+abbrev pub OthersLeaveSetsAlone : Type 0
+OthersLeaveSetsAlone = (run : Run) (plugin h : ℕ) (more past : List Item) → 1 ≤ plugin → h < run.harts → AreOfOthers h more
+    → Legal run (more ++ past) → IsStateLog run (more ++ past) → KeepsSet run plugin h past (more ++ past)

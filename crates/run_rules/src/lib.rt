@@ -3,7 +3,7 @@
 #![tactic(auto)]
 
 ghost use Rattle.run_rules.specs.Laws.{HearsByStepsAlone, HartsMoveByTheirSteps, TurnsAreLegal, LinesAreInTime, OpensAsPlanned};
-ghost use Rattle.run_rules.specs.Laws.{KeepsItsOpening, LaterSetsHearNothing, LogsAreOfTheirJournals, PlacesFit};
+ghost use Rattle.run_rules.specs.Laws.{KeepsItsOpening, LaterSetsHearNothing, LogsAreOfTheirJournals, PlacesFit, OthersLeaveSetsAlone};
 
 /// No item but a step of a hart changes what a set has made of the hart's events.
 #[tactic(auto, using(crate::proofs::Tails::hears_by_steps_alone))]
@@ -48,4 +48,9 @@ pub fn logs_are_of_their_journals()
 #[tactic(auto, using(crate::proofs::Fitting::places_fit))]
 pub fn places_fit()
     ensures law { PlacesFit }
+{}
+
+/// Items of other parties neither bring a hart a set nor take one from it, and let none hear.
+pub fn others_leave_sets_alone()
+    ensures law { OthersLeaveSetsAlone }
 {}
