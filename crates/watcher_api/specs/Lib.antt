@@ -1,3 +1,6 @@
 pub mod Meaning
 pub mod Heard
 pub mod Tallies
+pub mod Attachment
+pub mod HeldActs
+pub mod Acting

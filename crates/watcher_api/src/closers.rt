@@ -1,4 +1,4 @@
-//! What comes back of a plug-in that has ended, and who gets it.
+//! How a set was withdrawn, with the boxes and columns given back, and who is told.
 
 ghost use Rattle.std.specs.Prelude.{◌≡◌, ◌<◌, List, [], ◌∷◌, ◌++◌, length, slice_index_or, MatchResult, OnErr};
 ghost use Rattle.watcher_api.specs.declared.closers.Returned.{Returned};
@@ -16,7 +16,7 @@ pub struct Parked<B> {
     pub watcher: B,
 }
 
-/// A notice: how a plug-in ended, with the boxes and columns that the harts gave back.
+/// A notice: how a set was withdrawn, with the boxes and columns given back; none where an Idle plug-in was uninstalled.
 #[derive(Debug, Drop)]
 pub struct Returned<B> {
     /// The plug-in's number, from 1.

@@ -54,6 +54,13 @@ impl<W: Watcher> Held<W> {
         Ok(ask)
     }
 
+    /// Its kind.
+    pub fn kind(&self) -> Kind
+        ensures kind { result ≡ self.now.kind }
+    {
+        self.kind
+    }
+
     /// The rows of its kind for the events that it heard.
     pub fn tally(&self, alloc: Global) -> Result<Vec<Row>, NoMemory>
         ensures { IfOk result (λ tally. tally.items ≡ rows self.now.kind self.now.events) }

@@ -3,7 +3,7 @@
 ghost use Rattle.std.specs.Prelude.{◌≡◌, ◌<◌, ◌^◌, List, [], length, IfOk, take};
 ghost use Rattle.flat_model.specs.declared.events.Event.{Event};
 ghost use Rattle.std.specs.List.{filter_map};
-ghost use Rattle.watcher_api.specs.Tallies.{rows, exec_row};
+ghost use Rattle.watcher_api.specs.Tallies.{rows, counts_row, counts_rows, count_of, kind_number, exec_row};
 
 use crate::watchers::{Watcher, asked};
 use flat_model::{Ask, Event, Kind, KindName, NoMemory, Row, What};
@@ -36,6 +36,13 @@ impl Recorder {
         ensures bounded { result < 2 ^ 63 }
     {
         self.events.len() as u64
+    }
+
+    /// The events that it has heard, in order.
+    pub fn events(&self) -> &[Event]
+        ensures heard { (events : List Event) → ⟦<Recorder as Watcher>⟧.stands self.now events → result.now ≡ events }
+    {
+        &self.events
     }
 }
 
@@ -71,8 +78,65 @@ pub fn rows_of(alloc: Global, kind: Kind, events: &[Event]) -> Result<Vec<Row>, 
     ensures { IfOk result (λ tally. tally.items ≡ rows kind events.now) }
 {
     match kind.name {
+        KindName::Counts => counts_rows(alloc, events),
         KindName::Exec => exec_rows(alloc, events),
         _ => Ok(Vec::new(alloc)),
+    }
+}
+
+/// A row for each kind of event that occurs, by the number of its bit in a filter.
+fn counts_rows(alloc: Global, events: &[Event]) -> Result<Vec<Row>, NoMemory>
+    ensures { IfOk result (λ tally. tally.items ≡ counts_rows events.now) }
+{
+    let numbers = [0u64, 1, 2, 3, 4, 5, 6];
+    let rows = numbers.iter().filter_map(
+        |number| -> Option<Row>
+            ensures { result ≡ counts_row events.entry.now number.now }
+        { counts_row(*number, events) },
+    );
+    Ok(rows.collect(alloc)?)
+}
+
+/// The row of the kind of event with a number, where it occurs.
+fn counts_row(number: u64, events: &[Event]) -> Option<Row>
+    ensures { result ≡ counts_row events.now number }
+{
+    let count = count_of(number, events);
+    if count == 0 {
+        return None;
+    }
+    Some(Row {
+        key: number,
+        a: count,
+        b: 0,
+        c: 0,
+        d: 0,
+    })
+}
+
+/// How many of the events are of the kind with a number.
+fn count_of(number: u64, events: &[Event]) -> u64
+    ensures count { result ≡ count_of number events.now }
+    ensures fits { result < 2 ^ 64 }
+{
+    events
+        .iter()
+        .filter(|e| kind_number(&e.what) == number)
+        .count() as u64
+}
+
+/// The number of a kind of event, which is that of its bit in a filter.
+fn kind_number(what: &What) -> u64
+    ensures { result ≡ kind_number what.now }
+{
+    match what {
+        What::Init => 0,
+        What::Block { .. } => 1,
+        What::Insn { .. } => 2,
+        What::Mem { .. } => 3,
+        What::Sys { .. } => 4,
+        What::SysRet { .. } => 5,
+        What::Exit { .. } => 6,
     }
 }
 

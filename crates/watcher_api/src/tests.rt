@@ -82,10 +82,25 @@ fn a_recorder_tallies_each_instruction(rt: HostRuntime) -> Result<(), Fail> {
         held.into_inner().tally(rt.alloc())?.as_slice(),
         told_rows().as_slice()
     );
-    assert_eq!(rt;
-        rows_of(rt.alloc(), asking(KindName::Counts, 1), &told())?.len(),
-        0
-    );
+    Ok(())
+}
+
+#[test]
+fn counts_have_a_row_for_each_kind_that_occurs(rt: HostRuntime) -> Result<(), Fail> {
+    let rows = rows_of(rt.alloc(), asking(KindName::Counts, 1), &told())?;
+    let want = [row(0, 1, 0), row(2, 3, 0), row(6, 1, 0)];
+    assert_eq!(rt; rows.as_slice(), want.as_slice());
+    Ok(())
+}
+
+#[test]
+fn a_recorder_gives_its_events(rt: HostRuntime) -> Result<(), Fail> {
+    let mut held = Held::new(Recorder::blank(rt.alloc()), EXEC);
+    for e in &told() {
+        assert!(rt; held.call(e).is_ok());
+    }
+    assert_eq!(rt; held.kind(), EXEC);
+    assert_eq!(rt; held.into_inner().events(), told().as_slice());
     Ok(())
 }
 

@@ -1,0 +1,4 @@
+pub mod Acting
+pub mod Sets
+pub mod Order
+pub mod Opening
