@@ -19,7 +19,7 @@ use Rattle.run_rules.specs.Heard.{progress, opening_progress, is_listening}
 use Rattle.run_rules.specs.Laws.{LaterSetsHearNothing}
 
 -- how many sets the plug-in at a place has
-abbrev sets_at : List Plugin → ℕ → ℕ
+abbrev pub sets_at : List Plugin → ℕ → ℕ
 sets_at ps i = length (slice_index_or ps i no_plugin).sets
 
 set_grows : (ps : List Plugin) (k : ℕ) (x : Plugin) (i : ℕ) → sets_at ps k ≤ length x.sets → sets_at ps i ≤ sets_at (slice_set ps k x) i
@@ -40,9 +40,9 @@ leave_grows (p ∷ ps) hart zero = omega arith
 leave_grows (p ∷ ps) hart (suc i) = leave_grows ps hart i
 
 -- from one registry to the next
-record Grows (old new : Plugins) : Type 0 where
-  more : length old.plugins ≤ length new.plugins
-  sets : (i : ℕ) → sets_at old.plugins i ≤ sets_at new.plugins i
+pub record Grows (old new : Plugins) : Type 0 where
+  pub more : length old.plugins ≤ length new.plugins
+  pub sets : (i : ℕ) → sets_at old.plugins i ≤ sets_at new.plugins i
 
 place_grows : (r : Plugins) (number : ℕ) (p : Plugin) → sets_at r.plugins (number - 1) ≤ length p.sets → Grows r (with_plugin r number p)
 place_grows r number p le = record {
@@ -69,7 +69,7 @@ order_grows r (Reset number) =
 order_grows r (Uninstall number) =
     place_grows r number (withdrawn (plugin_of r number) Leaving how.Uninstall r.gone) (omega arith)
 
-item_grows : (run : Run) (x : Item) (past : List Item) → Grows (plugins run past) (plugins run (x ∷ past))
+pub item_grows : (run : Run) (x : Item) (past : List Item) → Grows (plugins run past) (plugins run (x ∷ past))
 unfolding registry
 item_grows run (Step hart) past = record { more = omega arith; sets = λ i. omega arith }
 item_grows run (Ordered origin order) past = order_grows (plugins run past) order

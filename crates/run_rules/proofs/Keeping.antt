@@ -36,7 +36,7 @@ idle_none WithHart o g f = absurd (false≢true f)
 idle_none Parked o g f = refl
 idle_none Out o g f = refl
 
-gone_none : (place : Place) (o g : Bool) → fits place Gone o g ≡ true → is_with_hart place ≡ false
+pub gone_none : (place : Place) (o g : Bool) → fits place Gone o g ≡ true → is_with_hart place ≡ false
 gone_none Nowhere o g f = refl
 gone_none Waiting o g f = refl
 gone_none WithHart o g f = absurd (false≢true f)
@@ -195,7 +195,7 @@ sets_one run plugin h (Got hart number) past one rule f with = refl
 sets_one run plugin h (Took who number) past one rule f with = refl
 
 -- an item of another party is no step of the hart
-no_step : (h : ℕ) (x : Item) → (party x == h) ≡ false → steps_by h x ≡ false
+pub no_step : (h : ℕ) (x : Item) → (party x == h) ≡ false → steps_by h x ≡ false
 no_step h (Step hart) other = other
 no_step h (Ordered origin order) other = refl
 no_step h (GaveBack hart number) other = refl

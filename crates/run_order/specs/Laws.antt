@@ -1,0 +1,22 @@
+-- What holds of what is in order, for those who hold a part of it while the log goes on.
+use Rattle.std.specs.Prelude.{◌≡◌, ◌<◌, ℕ, List, ◌++◌, Some}
+use Rattle.flat_model.specs.declared.journals.Item.{Item}
+use Rattle.flat_model.specs.World.{Start}
+use Rattle.flat_model.specs.Worlds.{world, hart_of}
+use Rattle.run_rules.specs.Guest.{Run}
+use Rattle.run_rules.specs.Legal.{Legal}
+use Rattle.run_rules.specs.Places.{IsStateLog, is_with_hart}
+use Rattle.run_rules.specs.Laws.{AreOfOthers}
+use Rattle.run_order.specs.Sets.{sets_for}
+use Rattle.run_order.specs.InOrder.{Task}
+
+-- the sets that a hart has stay as they are while others add to the log
+abbrev pub SetsStay : Type 0
+SetsStay = (run : Run) (h : ℕ) (more past : List Item) → h < run.harts → AreOfOthers h more
+    → Legal run (more ++ past) → IsStateLog run (more ++ past) → sets_for is_with_hart run h (more ++ past) ≡ sets_for is_with_hart run h past
+
+-- and so does the hart, where it has its start
+abbrev pub HartStays : Type 0
+HartStays = (t : Task) (h : ℕ) (more past : List Item) (start : Start) → AreOfOthers h more
+    → (world t.machine t.mode past).shared.starts h ≡ Some start
+    → hart_of t.machine t.mode (more ++ past) h ≡ hart_of t.machine t.mode past h

@@ -1,0 +1,17 @@
+//! When the state that the harts share is in order, and when a hart's runner is: what each holds is what its log says. The
+//! definitions stand in `specs/`; here is what holds of them.
+#![tactic(auto)]
+
+ghost use Rattle.run_order.specs.Laws.{SetsStay, HartStays};
+
+/// The sets that a hart has stay as they are while others add to the log.
+#[tactic(auto, using(crate::proofs::Staying::sets_stay))]
+pub fn sets_stay()
+    ensures law { SetsStay }
+{}
+
+/// A hart that has its start stays as it is while others add to the log.
+#[tactic(auto, using(crate::proofs::Staying::hart_stays))]
+pub fn hart_stays()
+    ensures law { HartStays }
+{}
