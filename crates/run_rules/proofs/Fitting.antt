@@ -231,11 +231,11 @@ register_admitted r number spec is =
     admits r (Register number spec) number
     (first_none (state_refusal r (Register number spec) number) (first (set_refusal spec) (box_refusal r spec)) (none_refused _ is))
 
-reset_admitted : (r : Plugins) (number : ℕ) → allowed r (Reset number) ≡ true → Admits r (Reset number) number
+pub reset_admitted : (r : Plugins) (number : ℕ) → allowed r (Reset number) ≡ true → Admits r (Reset number) number
 unfolding refusal
 reset_admitted r number is = admits r (Reset number) number (none_refused (state_refusal r (Reset number) number) is)
 
-uninstall_admitted : (r : Plugins) (number : ℕ) → allowed r (Uninstall number) ≡ true → Admits r (Uninstall number) number
+pub uninstall_admitted : (r : Plugins) (number : ℕ) → allowed r (Uninstall number) ≡ true → Admits r (Uninstall number) number
 unfolding refusal
 uninstall_admitted r number is = admits r (Uninstall number) number (none_refused (state_refusal r (Uninstall number) number) is)
 
@@ -254,7 +254,7 @@ append_other [] x (suc i) off = refl
 append_other (p ∷ ps) x zero off = refl
 append_other (p ∷ ps) x (suc i) off = append_other ps x i (λ e. off (ap suc e))
 
-append_last : (ps : List Plugin) (x : Plugin) (i : ℕ) → i ≡ length ps → slice_index_or (ps ++ x ∷ []) i no_plugin ≡ x
+pub append_last : (ps : List Plugin) (x : Plugin) (i : ℕ) → i ≡ length ps → slice_index_or (ps ++ x ∷ []) i no_plugin ≡ x
 append_last [] x zero at = refl
 append_last [] x (suc i) at = absurd (omega (arith, at))
 append_last (p ∷ ps) x zero at = absurd (omega (arith, at))

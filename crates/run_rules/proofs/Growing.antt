@@ -105,7 +105,7 @@ sets_grow old new number g =
 listens_none : (r : Plugins) (plugin set : ℕ) → length (sets_of r plugin) ≤ set → is_listening r plugin set ≡ false
 listens_none r plugin set le = and_left (nat_lt set (length (sets_of r plugin))) (not (is_some (ending_of r plugin set))) (le-ltb set (length (sets_of r plugin)) le)
 
-step_none : (run : Run) (spec : SetSpec) (plugin set h hart : ℕ) (past : List Item)
+pub step_none : (run : Run) (spec : SetSpec) (plugin set h hart : ℕ) (past : List Item)
     → is_listening (plugins run past) plugin set ≡ false
     → progress run spec plugin set h (Step hart ∷ past) ≡ progress run spec plugin set h past
 unfolding progress

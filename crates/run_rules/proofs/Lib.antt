@@ -6,4 +6,5 @@ pub mod Openings
 pub mod Growing
 pub mod Fitting
 pub mod Keeping
+pub mod Endings
 pub mod Journals

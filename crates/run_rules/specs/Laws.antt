@@ -12,9 +12,9 @@ use Rattle.flat_model.specs.Log.{steps, total_steps, journaled, party}
 use Rattle.flat_model.specs.Plan.{Planned}
 use Rattle.flat_model.specs.World.{Machine, Start}
 use Rattle.flat_model.specs.Worlds.{world, hart_of}
-use Rattle.flat_model.specs.Registry.{sets_of}
+use Rattle.flat_model.specs.Registry.{Plugin, plugin_of, sets_of}
 use Rattle.run_rules.specs.Guest.{Run, run_of, plugins}
-use Rattle.run_rules.specs.Heard.{progress, opening_progress}
+use Rattle.run_rules.specs.Heard.{progress, opening_progress, is_live, is_listening, last_set}
 use Rattle.run_rules.specs.Due.{Line, owed_line, is_start, start_orders, missing_install}
 use Rattle.run_rules.specs.Places.{IsStateLog, place_of, is_with_hart, fits_in}
 use Rattle.run_rules.specs.Legal.{Legal, is_there, owes_any, asks_nothing, passes_nothing_by, runs}
@@ -137,3 +137,18 @@ pub record KeepsSet (run : Run) (plugin h : ℕ) (past now : List Item) : Type 0
 abbrev pub OthersLeaveSetsAlone : Type 0
 OthersLeaveSetsAlone = (run : Run) (plugin h : ℕ) (more past : List Item) → 1 ≤ plugin → h < run.harts → AreOfOthers h more
     → Legal run (more ++ past) → IsStateLog run (more ++ past) → KeepsSet run plugin h past (more ++ past)
+
+-- The sets of a plug-in have each ended but for the last of a plug-in that is Live.
+
+abbrev pub EndingsFit : Plugin → Type 0
+EndingsFit p =
+    (is_live p.state ≡ true → length p.endings + 1 ≡ length p.sets) × (is_live p.state ≡ false → length p.endings ≡ length p.sets)
+
+abbrev pub EndingsGoWithStates : Type 0
+EndingsGoWithStates = (run : Run) (plugin : ℕ) (past : List Item) → 1 ≤ plugin → Legal run past → EndingsFit (plugin_of (plugins run past) plugin)
+
+-- so the set that a plug-in registered last listens exactly while the plug-in is Live
+abbrev pub LastSetsListenWhileLive : Type 0
+LastSetsListenWhileLive = (run : Run) (plugin : ℕ) (past : List Item) → 1 ≤ plugin → Legal run past
+    → is_live (plugin_of (plugins run past) plugin).state ≡ false
+    → is_listening (plugins run past) plugin (last_set (plugins run past) plugin) ≡ false

@@ -4,6 +4,7 @@
 
 ghost use Rattle.run_rules.specs.Laws.{HearsByStepsAlone, HartsMoveByTheirSteps, TurnsAreLegal, LinesAreInTime, OpensAsPlanned};
 ghost use Rattle.run_rules.specs.Laws.{KeepsItsOpening, LaterSetsHearNothing, LogsAreOfTheirJournals, PlacesFit, OthersLeaveSetsAlone};
+ghost use Rattle.run_rules.specs.Laws.{EndingsGoWithStates, LastSetsListenWhileLive};
 
 /// No item but a step of a hart changes what a set has made of the hart's events.
 #[tactic(auto, using(crate::proofs::Tails::hears_by_steps_alone))]
@@ -53,4 +54,10 @@ pub fn places_fit()
 /// Items of other parties neither bring a hart a set nor take one from it, and let none hear.
 pub fn others_leave_sets_alone()
     ensures law { OthersLeaveSetsAlone }
+{}
+
+/// The sets of a plug-in have each ended, but for the last of a plug-in that is Live: it alone listens.
+pub fn endings_go_with_states()
+    ensures endings { EndingsGoWithStates }
+    ensures listening { LastSetsListenWhileLive }
 {}
