@@ -36,7 +36,7 @@ last_made run plugin h sets log =
     let p = progress run spec plugin (length sets - 1) h log in
     record { plugin = plugin; acts = map (λ s. s.act) spec.subs; heard = p.walk.heard; column = p.walk.column }
 
-abbrev made_by : ℕ → SetSpec → Progress → Attachment
+abbrev pub made_by : ℕ → SetSpec → Progress → Attachment
 made_by plugin spec p = record { plugin = plugin; acts = map (λ s. s.act) spec.subs; heard = p.walk.heard; column = p.walk.column }
 
 -- a set that is with the hart is the same, by what keeps it

@@ -1,13 +1,14 @@
 -- What holds of what is in order, for those who hold a part of it while the log goes on.
 use Rattle.std.specs.Prelude.{◌≡◌, ◌<◌, ℕ, List, ◌++◌, Some}
 use Rattle.flat_model.specs.declared.journals.Item.{Item}
+use Rattle.flat_model.specs.Log.{steps}
 use Rattle.flat_model.specs.World.{Start}
 use Rattle.flat_model.specs.Worlds.{world, hart_of}
 use Rattle.run_rules.specs.Guest.{Run}
 use Rattle.run_rules.specs.Legal.{Legal}
-use Rattle.run_rules.specs.Places.{IsStateLog, is_with_hart}
+use Rattle.run_rules.specs.Places.{IsStateLog, is_waiting, is_with_hart, is_parked}
 use Rattle.run_rules.specs.Laws.{AreOfOthers}
-use Rattle.run_order.specs.Sets.{sets_for}
+use Rattle.run_order.specs.Sets.{shelf, sets_for}
 use Rattle.run_order.specs.InOrder.{Task}
 
 -- the sets that a hart has stay as they are while others add to the log
@@ -20,3 +21,8 @@ abbrev pub HartStays : Type 0
 HartStays = (t : Task) (h : ℕ) (more past : List Item) (start : Start) → AreOfOthers h more
     → (world t.machine t.mode past).shared.starts h ≡ Some start
     → hart_of t.machine t.mode (more ++ past) h ≡ hart_of t.machine t.mode past h
+
+-- a Turn moves no set that waits or is parked, and lets none of them hear
+abbrev pub TurnsKeepShelves : Type 0
+TurnsKeepShelves = (run : Run) (h n : ℕ) (past : List Item) → Legal run (steps h n past) → IsStateLog run (steps h n past)
+    → (shelf is_waiting run (steps h n past) ≡ shelf is_waiting run past) × (shelf is_parked run (steps h n past) ≡ shelf is_parked run past)

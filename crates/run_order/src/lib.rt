@@ -2,7 +2,7 @@
 //! definitions stand in `specs/`; here is what holds of them.
 #![tactic(auto)]
 
-ghost use Rattle.run_order.specs.Laws.{SetsStay, HartStays};
+ghost use Rattle.run_order.specs.Laws.{SetsStay, HartStays, TurnsKeepShelves};
 
 /// The sets that a hart has stay as they are while others add to the log.
 #[tactic(auto, using(crate::proofs::Staying::sets_stay))]
@@ -14,4 +14,9 @@ pub fn sets_stay()
 #[tactic(auto, using(crate::proofs::Staying::hart_stays))]
 pub fn hart_stays()
     ensures law { HartStays }
+{}
+
+/// A Turn moves no set that waits or is parked, and lets none of them hear.
+pub fn turns_keep_shelves()
+    ensures law { TurnsKeepShelves }
 {}
