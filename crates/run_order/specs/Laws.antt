@@ -1,10 +1,15 @@
 -- What holds of what is in order, for those who hold a part of it while the log goes on.
-use Rattle.std.specs.Prelude.{◌≡◌, ◌<◌, ℕ, List, ◌++◌, Some}
+use Rattle.std.specs.Prelude.{◌≡◌, ◌<◌, ◌+◌, ℕ, List, [], ◌∷◌, ◌++◌, Some, None, length, replicate, slice_set, slice_index_or}
+use Rattle.flat_model.specs.declared.plugins.SetSpec.{SetSpec}
 use Rattle.flat_model.specs.declared.journals.Item.{Item}
+use Rattle.flat_model.specs.declared.journals.Item.TheVariants.{Ordered}
+use Rattle.flat_model.specs.declared.journals.Order.TheVariants.{Install}
+use Rattle.flat_model.specs.declared.journals.Origin.{Origin}
+use Rattle.watcher_api.specs.Attachment.{opening}
 use Rattle.flat_model.specs.Log.{steps}
 use Rattle.flat_model.specs.World.{Start}
 use Rattle.flat_model.specs.Worlds.{world, hart_of}
-use Rattle.run_rules.specs.Guest.{Run}
+use Rattle.run_rules.specs.Guest.{Run, plugins}
 use Rattle.run_rules.specs.Legal.{Legal}
 use Rattle.run_rules.specs.Places.{IsStateLog, is_waiting, is_with_hart, is_parked}
 use Rattle.run_rules.specs.Laws.{AreOfOthers}
@@ -26,3 +31,17 @@ HartStays = (t : Task) (h : ℕ) (more past : List Item) (start : Start) → Are
 abbrev pub TurnsKeepShelves : Type 0
 TurnsKeepShelves = (run : Run) (h n : ℕ) (past : List Item) → Legal run (steps h n past) → IsStateLog run (steps h n past)
     → (shelf is_waiting run (steps h n past) ≡ shelf is_waiting run past) × (shelf is_parked run (steps h n past) ≡ shelf is_parked run past)
+
+-- What orders and takes move.
+
+-- a table with one place changed
+abbrev pub with_place : {A : Type 0} → List (List A) → ℕ → ℕ → A → List (List A)
+with_place rows i j x = slice_set rows i (slice_set (slice_index_or rows i []) j x)
+
+-- an install adds a row to each shelf: a set that has heard nothing waits for each hart, and none is parked
+abbrev pub InstallsWait : Type 0
+InstallsWait = (run : Run) (origin : Origin) (spec : SetSpec) (past : List Item)
+    → Legal run (Ordered origin (Install spec) ∷ past) → IsStateLog run past
+    → (shelf is_waiting run (Ordered origin (Install spec) ∷ past)
+    ≡ shelf is_waiting run past ++ replicate run.harts (Some (opening (length (plugins run past).plugins + 1) spec)) ∷ [])
+    × (shelf is_parked run (Ordered origin (Install spec) ∷ past) ≡ shelf is_parked run past ++ replicate run.harts None ∷ [])

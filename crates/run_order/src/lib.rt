@@ -2,7 +2,7 @@
 //! definitions stand in `specs/`; here is what holds of them.
 #![tactic(auto)]
 
-ghost use Rattle.run_order.specs.Laws.{SetsStay, HartStays, TurnsKeepShelves};
+ghost use Rattle.run_order.specs.Laws.{SetsStay, HartStays, TurnsKeepShelves, InstallsWait};
 
 /// The sets that a hart has stay as they are while others add to the log.
 #[tactic(auto, using(crate::proofs::Staying::sets_stay))]
@@ -19,4 +19,9 @@ pub fn hart_stays()
 /// A Turn moves no set that waits or is parked, and lets none of them hear.
 pub fn turns_keep_shelves()
     ensures law { TurnsKeepShelves }
+{}
+
+/// An install adds a row to each shelf: its set waits for each hart and has heard nothing, and none is parked.
+pub fn installs_wait()
+    ensures law { InstallsWait }
 {}

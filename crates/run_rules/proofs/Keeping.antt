@@ -157,7 +157,7 @@ left_sets : (r : Plugins) (k plugin : ℕ) → sets_of (after_leave k r) plugin 
 left_sets r k plugin =
     sets_alike r (after_leave k r) plugin (length-map r.plugins (without_hart k)) (ap (λ (p : Plugin). p.sets) (left_at k r.plugins (plugin - 1)))
 
-order_sets : (r : Plugins) (order : Order) (plugin : ℕ) → 1 ≤ plugin → allowed r order ≡ true → registers r order plugin ≡ false
+pub order_sets : (r : Plugins) (order : Order) (plugin : ℕ) → 1 ≤ plugin → allowed r order ≡ true → registers r order plugin ≡ false
     → sets_of (after_order order r) plugin ≡ sets_of r plugin
 order_sets r (Install spec) plugin one is off =
     let apart : (plugin - 1) ≢ length r.plugins = λ e. grind (arith, nat_tests, off, e, one) in
