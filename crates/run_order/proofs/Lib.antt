@@ -1,3 +1,4 @@
 pub mod Staying
 pub mod Shelves
 pub mod Installing
+pub mod Taking

@@ -1,8 +1,8 @@
 -- What holds of what is in order, for those who hold a part of it while the log goes on.
-use Rattle.std.specs.Prelude.{◌≡◌, ◌<◌, ◌+◌, ℕ, List, [], ◌∷◌, ◌++◌, Some, None, length, replicate, slice_set, slice_index_or}
+use Rattle.std.specs.Prelude.{◌≡◌, ◌<◌, ◌≤◌, ◌+◌, ◌-◌, true, ℕ, List, [], ◌∷◌, ◌++◌, Some, None, length, replicate, slice_set, slice_index_or}
 use Rattle.flat_model.specs.declared.plugins.SetSpec.{SetSpec}
 use Rattle.flat_model.specs.declared.journals.Item.{Item}
-use Rattle.flat_model.specs.declared.journals.Item.TheVariants.{Ordered}
+use Rattle.flat_model.specs.declared.journals.Item.TheVariants.{Ordered, Got}
 use Rattle.flat_model.specs.declared.journals.Order.TheVariants.{Install}
 use Rattle.flat_model.specs.declared.journals.Origin.{Origin}
 use Rattle.watcher_api.specs.Attachment.{opening}
@@ -11,9 +11,9 @@ use Rattle.flat_model.specs.World.{Start}
 use Rattle.flat_model.specs.Worlds.{world, hart_of}
 use Rattle.run_rules.specs.Guest.{Run, plugins}
 use Rattle.run_rules.specs.Legal.{Legal}
-use Rattle.run_rules.specs.Places.{IsStateLog, is_waiting, is_with_hart, is_parked}
+use Rattle.run_rules.specs.Places.{IsStateLog, is_waiting, is_with_hart, is_parked, may_get}
 use Rattle.run_rules.specs.Laws.{AreOfOthers}
-use Rattle.run_order.specs.Sets.{shelf, sets_for}
+use Rattle.run_order.specs.Sets.{attachment_of, placed_at, shelf, sets_for}
 use Rattle.run_order.specs.InOrder.{Task}
 
 -- the sets that a hart has stay as they are while others add to the log
@@ -45,3 +45,14 @@ InstallsWait = (run : Run) (origin : Origin) (spec : SetSpec) (past : List Item)
     → (shelf is_waiting run (Ordered origin (Install spec) ∷ past)
     ≡ shelf is_waiting run past ++ replicate run.harts (Some (opening (length (plugins run past).plugins + 1) spec)) ∷ [])
     × (shelf is_parked run (Ordered origin (Install spec) ∷ past) ≡ shelf is_parked run past ++ replicate run.harts None ∷ [])
+
+-- a hart that takes a set takes it from where it waits, and it is the set that the log says
+pub record SetMoves (run : Run) (h plugin : ℕ) (past : List Item) : Type 0 where
+  pub taken : placed_at is_waiting run past plugin h ≡ Some (attachment_of run plugin h past)
+  pub waiting : shelf is_waiting run (Got h plugin ∷ past) ≡ with_place (shelf is_waiting run past) (plugin - 1) h None
+  pub parked : shelf is_parked run (Got h plugin ∷ past) ≡ shelf is_parked run past
+  pub with_hart : placed_at is_with_hart run (Got h plugin ∷ past) plugin h ≡ Some (attachment_of run plugin h past)
+
+abbrev pub TakesMoveSets : Type 0
+TakesMoveSets = (run : Run) (h plugin : ℕ) (past : List Item)
+    → 1 ≤ plugin → plugin ≤ length (plugins run past).plugins → h < run.harts → may_get run h plugin past ≡ true → SetMoves run h plugin past

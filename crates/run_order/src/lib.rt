@@ -2,7 +2,7 @@
 //! definitions stand in `specs/`; here is what holds of them.
 #![tactic(auto)]
 
-ghost use Rattle.run_order.specs.Laws.{SetsStay, HartStays, TurnsKeepShelves, InstallsWait};
+ghost use Rattle.run_order.specs.Laws.{SetsStay, HartStays, TurnsKeepShelves, InstallsWait, TakesMoveSets};
 
 /// The sets that a hart has stay as they are while others add to the log.
 #[tactic(auto, using(crate::proofs::Staying::sets_stay))]
@@ -24,4 +24,9 @@ pub fn turns_keep_shelves()
 /// An install adds a row to each shelf: its set waits for each hart and has heard nothing, and none is parked.
 pub fn installs_wait()
     ensures law { InstallsWait }
+{}
+
+/// A hart that takes a set takes it from where it waits, and nothing else moves.
+pub fn takes_move_sets()
+    ensures law { TakesMoveSets }
 {}
