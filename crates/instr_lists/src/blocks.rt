@@ -1,0 +1,132 @@
+//! The lists of a block.
+
+ghost use Rattle.std.specs.Prelude.{◌≡◌, ◌+◌, ◌*◌, ◌<◌, ◌^◌, ◌++◌, ℕ, true, length, IfOk};
+ghost use Rattle.instr_lists.specs.Sorts.{IsInside, LiesIn, access_sorts, site_sorts, other_sorts};
+ghost use Rattle.instr_lists.specs.Lists.{IsPlaceOf, AreHeard};
+
+use crate::lists::Lists;
+use crate::slots::Slot;
+use crate::sorts::Sort;
+use block_finder::{Block, Site};
+use flat_model::{NoMemory, SetSpec, Trace, What};
+use std::alloc::Global;
+use std::marker::Model;
+
+/// For each event that steps in a block can give, which subscriptions of some sets hear it. A block that nothing listens to
+/// holds no memory.
+#[derive(Drop)]
+pub struct BlockList {
+    pc: u64,
+    n: u32,
+    lists: Lists,
+    sites: Trace<Site>,
+}
+
+impl Model for BlockList {
+    ghost use Rattle.std.specs.Prelude.{◌≡◌, ◌<◌, ◌^◌, length};
+    ghost use Rattle.instr_lists.specs.Lists.{Listed};
+    ghost use Rattle.instr_lists.specs.Sorts.{sorts_of};
+
+    ghost Value = { Listed };
+
+    ghost view = { λ l. record { block = record { pc = l.pc; n = l.n; sites = l.sites.items }; sets = l.lists.sets } };
+
+    ghost invariant = { λ l. (l.lists.sorts ≡ sorts_of l.sites.items) × (length l.sites.items ≡ l.n) };
+}
+
+/// The lists with those of a word of the block.
+fn with_site(lists: Lists, site: &Site, sets: &[(u8, SetSpec)]) -> Result<Lists, NoMemory>
+    requires sets { lists.sets ≡ sets.now }
+    requires grows { lists.grows ≡ true }
+    ensures with { IfOk result (λ l. l ≡ record lists { sorts = lists.sorts ++ site_sorts site.now }) }
+{
+    let (pc, class) = (site.pc, site.class);
+    let lists = lists.with(Sort::Block { pc }, sets)?;
+    let lists = lists.with(Sort::Insn { pc, class }, sets)?;
+    with_accesses(lists, site, sets)
+}
+
+/// The lists with those of the accesses that a word can make: loads, stores and both.
+fn with_accesses(lists: Lists, site: &Site, sets: &[(u8, SetSpec)]) -> Result<Lists, NoMemory>
+    requires sets { lists.sets ≡ sets.now }
+    requires grows { lists.grows ≡ true }
+    ensures with { IfOk result (λ l. l ≡ record lists { sorts = lists.sorts ++ access_sorts site.now }) }
+{
+    let (pc, class) = (site.pc, site.class);
+    let lists = lists.with(Sort::Mem { pc, class, rw: 1 }, sets)?;
+    let lists = lists.with(Sort::Mem { pc, class, rw: 2 }, sets)?;
+    lists.with(Sort::Mem { pc, class, rw: 3 }, sets)
+}
+
+/// The lists with those of the events that any step can give.
+fn with_others(lists: Lists, sets: &[(u8, SetSpec)]) -> Result<Lists, NoMemory>
+    requires sets { lists.sets ≡ sets.now }
+    requires grows { lists.grows ≡ true }
+    ensures with { IfOk result (λ l. l ≡ record lists { sorts = lists.sorts ++ other_sorts }) }
+{
+    let lists = lists.with(Sort::Init, sets)?;
+    let lists = lists.with(Sort::Sys, sets)?;
+    let lists = lists.with(Sort::SysRet, sets)?;
+    lists.with(Sort::Exit, sets)
+}
+
+/// Finds out which subscriptions of the sets hear which events of the block. Delivery needs that the block is what `find`
+/// gives. It takes memory for the lists alone.
+pub fn build(alloc: Global, block: &Block, sets: &[(u8, SetSpec)]) -> Result<BlockList, NoMemory>
+    requires whole { length block.now.sites ≡ block.now.n }
+    ensures built { IfOk result (λ list. list ≡ record { block = block.now; sets = sets.now }) }
+{
+    let mut lists = Lists::new(alloc, sets)?;
+    let mut sites = Trace::new();
+    for site in &block.sites {
+        lists = with_site(lists, site, sets)?;
+        sites = sites.and(site);
+    }
+    Ok(BlockList {
+        pc: block.pc,
+        n: block.n,
+        lists: with_others(lists, sets)?.finished(alloc),
+        sites,
+    })
+}
+
+impl BlockList {
+    /// Which word of the block stands at `pc`, from 0.
+    #[inline]
+    fn word(&self, pc: u64) -> usize
+        requires inside { IsInside self.now.block pc }
+        ensures word { (k : ℕ) → pc ≡ self.now.block.pc + 4 * k → result ≡ k }
+        ensures within { result < length self.now.block.sites }
+        ensures small { result < 2 ^ 32 }
+    {
+        // The place is below this number, which bounds it.
+        let _words = self.n;
+        ((pc - self.pc) / 4) as usize
+    }
+
+    /// The place of an event's list.
+    #[inline]
+    fn place(&self, what: &What) -> usize
+        requires lies { LiesIn self.now.block what.now }
+        ensures place { IsPlaceOf self.now.block what.now result }
+    {
+        match *what {
+            What::Block { pc, .. } => 5 * self.word(pc),
+            What::Insn { pc, .. } => 5 * self.word(pc) + 1,
+            What::Mem { pc, rw, .. } => 5 * self.word(pc) + 1 + usize::from(rw),
+            What::Init => 5 * self.n as usize,
+            What::Sys { .. } => 5 * self.n as usize + 1,
+            What::SysRet { .. } => 5 * self.n as usize + 2,
+            What::Exit { .. } => 5 * self.n as usize + 3,
+        }
+    }
+
+    /// The subscriptions that hear an event.
+    #[inline]
+    pub(crate) fn slots(&self, what: &What) -> &[Slot]
+        requires lies { LiesIn self.now.block what.now }
+        ensures heard { AreHeard self.now what.now result.now }
+    {
+        self.lists.get(self.place(what))
+    }
+}

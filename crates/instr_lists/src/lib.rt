@@ -1,0 +1,9 @@
+//! Resolved lists: which subscriptions hear which events of a block is found out once, and delivery walks lists of slots.
+#![tactic(auto)]
+
+pub use blocks::{BlockList, build};
+
+mod blocks;
+mod lists;
+mod slots;
+mod sorts;
