@@ -1,6 +1,6 @@
 -- Lists in a row, one behind the other.
-use Rattle.std.proofs.Common.{◌≡◌, ◌<◌, ◌≤◌, ◌+◌, ◌-◌, ◌∙◌, ◌++◌, ◌∷◌, [], ℕ, zero, suc, Bool, true, false, List, length, take, drop, refl, sym, ap, arith}
-use Rattle.std.proofs.Common.{append_assoc, length-append, inl, inr}
+use Rattle.std.proofs.Common.{◌≡◌, ◌<◌, ◌≤◌, ◌+◌, ◌-◌, ◌∙◌, ◌++◌, ◌∷◌, [], ℕ, zero, suc, true, false, List, length, take, drop, refl, sym, ap, arith}
+use Rattle.std.proofs.Common.{length-append, inl, inr}
 use Rattle.std.specs.Prelude.{slice_index_or, slice_range, flat_map, ◌==◌}
 use Rattle.std.proofs.lemmas.List.{append-nil, take-append-drop, get_or_default}
 use Rattle.std.proofs.lemmas.Bool.{cases_eq, eqb-true}

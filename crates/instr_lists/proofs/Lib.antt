@@ -1,3 +1,6 @@
 pub mod Resolving
 pub mod InARow
 pub mod Placing
+pub mod Hearing
+pub mod OneEvent
+pub mod Events

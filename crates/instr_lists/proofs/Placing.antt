@@ -1,23 +1,21 @@
 -- Where the list of an event stands.
-use Rattle.std.proofs.Common.{◌≡◌, ◌<◌, ◌≤◌, ◌+◌, ◌*◌, ◌∙◌, ◌&&◌, ◌++◌, ◌∷◌, [], ℕ, zero, suc, Bool, List, length, take, refl, sym, ap, subst, arith, Some, None}
+use Rattle.std.proofs.Common.{◌≡◌, ◌<◌, ◌+◌, ◌*◌, ◌∙◌, ◌&&◌, ◌∷◌, [], ℕ, zero, suc, Bool, List, length, take, refl, sym, ap, arith, Some, None}
 use Rattle.std.proofs.Common.{length-append}
 use Rattle.std.specs.Prelude.{slice_index_or, flat_map}
 use Rattle.std.proofs.lemmas.List.{length-take, get_or_append_left, get_or-append-add}
 use Rattle.std.proofs.lemmas.List.Concat.{get_or-flat_map}
 use Rattle.flat_model.specs.declared.events.Class.{Class}
 use Rattle.flat_model.specs.declared.events.Class.TheVariants.{Illegal}
-use Rattle.flat_model.specs.declared.events.What.{What}
 use Rattle.flat_model.specs.declared.events.Ending.{Ending}
 use Rattle.flat_model.specs.declared.events.What.TheVariants as what
 use Rattle.flat_model.specs.declared.plugins.Filter.{Filter}
-use Rattle.flat_model.specs.declared.limits.TheConstants.{KIND_INIT, KIND_BLOCK, KIND_INSN, KIND_MEM, KIND_SYS, KIND_SYSRET, KIND_EXIT}
+use Rattle.flat_model.specs.declared.limits.TheConstants.{KIND_BLOCK, KIND_INSN, KIND_MEM}
 use Rattle.block_finder.specs.declared.blocks.Site.{Site}
 use Rattle.block_finder.specs.Block.{Stretch}
 use Rattle.event_walk.specs.Matches.{Classes, meet, is_within, has_class, class_bit, lets_through}
-use Rattle.instr_lists.specs.declared.sorts.Sort.{Sort}
 use Rattle.instr_lists.specs.declared.sorts.Sort.TheVariants.{Init, Block, Insn, Mem, Sys, SysRet, Exit}
-use Rattle.instr_lists.specs.Sorts.{passes, site_sorts, other_sorts, sorts_of, IsInside, IsAccess}
-use Rattle.instr_lists.specs.Lists.{HasClasses, IsSortOf, IsPlaceOf}
+use Rattle.instr_lists.specs.Sorts.{passes, site_sorts, other_sorts, sorts_of, IsInside}
+use Rattle.instr_lists.specs.Lists.{IsPlaceOf}
 
 pub five_each : (sites : List Site) → length (flat_map site_sorts sites) ≡ 5 * length sites
 five_each [] = refl

@@ -1,3 +1,4 @@
 pub mod Sorts
 pub mod Slots
 pub mod Lists
+pub mod Delivery

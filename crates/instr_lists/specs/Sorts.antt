@@ -1,12 +1,12 @@
 -- What of an event filters look at: its sort. Two events of one sort pass the same filters.
-use Rattle.std.specs.Prelude.{◌≡◌, ◌<◌, ◌+◌, ◌*◌, ℕ, Bool, ◌&&◌, List, [], ◌∷◌, ◌++◌, flat_map, length, slice_index_or, Some}
+use Rattle.std.specs.Prelude.{◌≡◌, ◌<◌, ◌+◌, ◌*◌, ℕ, Bool, ◌&&◌, List, [], ◌∷◌, ◌++◌, flat_map, length}
 use Rattle.flat_model.specs.declared.events.What.{What}
 use Rattle.flat_model.specs.declared.events.What.TheVariants as what
 use Rattle.flat_model.specs.declared.plugins.Filter.{Filter}
 use Rattle.flat_model.specs.declared.limits.TheConstants.{KIND_INIT, KIND_BLOCK, KIND_INSN, KIND_MEM, KIND_SYS, KIND_SYSRET, KIND_EXIT}
 use Rattle.block_finder.specs.declared.blocks.Site.{Site}
 use Rattle.block_finder.specs.Block.{Stretch}
-use Rattle.event_walk.specs.Matches.{Classes, meet, is_within, class_bit}
+use Rattle.event_walk.specs.Matches.{meet, is_within, class_bit}
 use Rattle.instr_lists.specs.declared.sorts.Sort.{Sort}
 use Rattle.instr_lists.specs.declared.sorts.Sort.TheVariants.{Init, Block, Insn, Mem, Sys, SysRet, Exit}
 

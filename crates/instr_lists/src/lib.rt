@@ -2,8 +2,12 @@
 #![tactic(auto)]
 
 pub use blocks::{BlockList, build};
+pub use delivery::deliver;
 
 mod blocks;
+mod delivery;
 mod lists;
 mod slots;
 mod sorts;
+#[cfg(test)]
+mod tests;

@@ -1,6 +1,5 @@
-use Rattle.std.proofs.Common.{◌≡◌, ◌∙◌, ◌+◌, ◌++◌, ◌∷◌, [], drop, true, false, sym, ap, subst}
+use Rattle.std.proofs.Common.{◌≡◌, ◌∙◌, ◌+◌, ◌++◌, ◌∷◌, [], drop, sym, ap, subst}
 use Rattle.instr_lists.specs.Slots.{slots_in}
-use Rattle.instr_lists.specs.Sorts.{passes}
 use Rattle.instr_lists.proofs.Resolving.{slot_more, slot_none, slots_done}
 use Rattle.instr_lists.proofs.slots.push_set.Goals as goal
 use Rattle.instr_lists.proofs.slots.push_set.Goals.{then-passes+in_ok-push, else-passes}

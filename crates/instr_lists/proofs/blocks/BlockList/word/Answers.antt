@@ -1,4 +1,4 @@
-use Rattle.std.proofs.Common.{◌≡◌, ◌<◌, ◌-◌, ◌/◌, ◌*◌, ◌+◌, length, sym, ap, arith}
+use Rattle.std.proofs.Common.{length, ap, arith}
 use Rattle.instr_lists.specs.Lists.{Listed}
 use Rattle.instr_lists.proofs.blocks.BlockList.word.Goals as goal
 

@@ -1,6 +1,5 @@
-use Rattle.std.proofs.Common.{◌≡◌, ◌<◌, ◌≤◌, ◌+◌, ◌-◌, ◌∙◌, [], List, length, drop, take, sym, ap, subst, arith, slice_index_or, length-drop}
+use Rattle.std.proofs.Common.{◌≡◌, ◌<◌, ◌-◌, ◌∙◌, length, drop, take, sym, ap, subst, arith, slice_index_or}
 use Rattle.instr_lists.specs.declared.sorts.Sort.TheVariants.{Init}
-use Rattle.instr_lists.specs.declared.slots.Slot.{Slot}
 use Rattle.instr_lists.specs.Slots.{slots_of}
 use Rattle.instr_lists.specs.Lists.{Resolved}
 use Rattle.instr_lists.proofs.InARow.{some_of, none_of, nothing, list_of_none, list_len, list_fits, list_is}
