@@ -4,3 +4,4 @@ pub mod Placing
 pub mod Hearing
 pub mod OneEvent
 pub mod Events
+pub mod Kept

@@ -2,3 +2,5 @@ pub mod Sorts
 pub mod Slots
 pub mod Lists
 pub mod Delivery
+pub mod Caches
+pub mod Lending

@@ -91,6 +91,14 @@ pub fn build(alloc: Global, block: &Block, sets: &[(u8, SetSpec)]) -> Result<Blo
 }
 
 impl BlockList {
+    /// The address of the block, in bytes.
+    #[inline]
+    pub(crate) fn pc(&self) -> u64
+        ensures pc { result ≡ self.now.block.pc }
+    {
+        self.pc
+    }
+
     /// Which word of the block stands at `pc`, from 0.
     #[inline]
     fn word(&self, pc: u64) -> usize

@@ -2,10 +2,14 @@
 #![tactic(auto)]
 
 pub use blocks::{BlockList, build};
+pub use caching::ListCache;
 pub use delivery::deliver;
+pub use kept_lists::KeptList;
 
 mod blocks;
+mod caching;
 mod delivery;
+mod kept_lists;
 mod lists;
 mod slots;
 mod sorts;

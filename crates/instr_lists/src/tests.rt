@@ -3,7 +3,7 @@ ghost use Rattle.watcher_api.specs.Acting.{acts_of};
 ghost use Rattle.instr_lists.specs.Delivery.{acts_with};
 ghost use Rattle.instr_lists.specs.Sorts.{LiesIn};
 
-use crate::{BlockList, build, deliver};
+use crate::{BlockList, ListCache, build, deliver};
 use block_finder::{Block, Site};
 use flat_model::{
     Act, Ask, Class, Cond, Event, Filter, Kind, KindName, NoMemory, Op, SetSpec, Sub, Subs, What,
@@ -186,5 +186,16 @@ fn the_box_is_called_at_the_third_and_the_sixth_instruction(rt: HostRuntime) -> 
     for (steps, refused, want) in rows {
         assert_eq!(rt; run(rt.alloc(), steps, refused)?, want);
     }
+    Ok(())
+}
+
+#[test]
+fn a_list_is_built_where_none_is_kept(rt: HostRuntime) -> Result<(), Fail> {
+    let block = code(rt.alloc())?;
+    let sets = [(1u8, each_third(rt.alloc())?)];
+    let mut cache = ListCache::new(rt.alloc())?;
+    assert_eq!(rt; cache.made(), 0);
+    assert!(rt; cache.lookup(0, &block, &sets).is_ok());
+    assert_eq!(rt; cache.made(), 1);
     Ok(())
 }
