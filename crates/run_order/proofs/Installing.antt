@@ -64,7 +64,7 @@ no_sets r =
     sets_unless (is_installed r (n + 1)) (plugin_of r (n + 1)).sets
     (and_right (nat_lt 0 (n + 1)) (nat_le (n + 1) n) (lt-leb (n + 1) n (omega arith)))
 
-abbrev last_made : Run → ℕ → ℕ → List SetSpec → List Item → Attachment
+abbrev pub last_made : Run → ℕ → ℕ → List SetSpec → List Item → Attachment
 last_made run plugin h sets log =
     let spec = slice_index_or sets (length sets - 1) no_set in
     let p = progress run spec plugin (length sets - 1) h log in

@@ -2,3 +2,4 @@ pub mod Staying
 pub mod Shelves
 pub mod Installing
 pub mod Taking
+pub mod Leaving

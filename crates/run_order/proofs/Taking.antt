@@ -19,7 +19,7 @@ use Rattle.run_order.specs.Laws.{TakesMoveSets}
 use Rattle.run_order.proofs.Shelves.{map_same}
 
 -- a list of what numbers give, where one number gives something else
-map_set : {A : Type 0} (f g : ℕ → A) (a n i : ℕ) → i < n → ((k : ℕ) → k ≢ (a + i) → g k ≡ f k)
+pub map_set : {A : Type 0} (f g : ℕ → A) (a n i : ℕ) → i < n → ((k : ℕ) → k ≢ (a + i) → g k ≡ f k)
     → map g (range_with_len a n) ≡ slice_set (map f (range_with_len a n)) i (g (a + i))
 map_set f g a zero i within same = absurd (omega (arith, within))
 map_set f g a (suc n) zero within same =
@@ -30,7 +30,7 @@ map_set f g a (suc n) (suc i) within same =
     ∙ ap (λ xs. f a ∷ xs) (map_set f g (a + 1) n i (omega (arith, within)) (λ k off. same k (λ e. off (omega (arith, e))))
     ∙ ap (λ (k : ℕ). slice_set (map f (range_with_len (a + 1) n)) i (g k)) (omega arith))
 
-map_at : {A : Type 0} (f : ℕ → A) (a n i : ℕ) (d : A) → i < n → slice_index_or (map f (range_with_len a n)) i d ≡ f (a + i)
+pub map_at : {A : Type 0} (f : ℕ → A) (a n i : ℕ) (d : A) → i < n → slice_index_or (map f (range_with_len a n)) i d ≡ f (a + i)
 map_at f a zero i d within = absurd (omega (arith, within))
 map_at f a (suc n) zero d within = ap f (omega arith)
 map_at f a (suc n) (suc i) d within = map_at f (a + 1) n i d (omega (arith, within)) ∙ ap f (omega arith)
@@ -54,7 +54,7 @@ same_attachment : (run : Run) (k q p j : ℕ) (past : List Item) → attachment_
 unfolding registry progress
 same_attachment run k q p j past = refl
 
-placed_by : (test : Place → Bool) (run : Run) (past now : List Item) (p j : ℕ) → attachment_of run p j now ≡ attachment_of run p j past
+pub placed_by : (test : Place → Bool) (run : Run) (past now : List Item) (p j : ℕ) → attachment_of run p j now ≡ attachment_of run p j past
     → test (place_of run p j now) ≡ test (place_of run p j past) → placed_at test run now p j ≡ placed_at test run past p j
 placed_by test run past now p j same there =
     ap (λ (b : Bool). if b then Some (attachment_of run p j now) else None) there

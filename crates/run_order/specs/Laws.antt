@@ -1,11 +1,11 @@
 -- What holds of what is in order, for those who hold a part of it while the log goes on.
-use Rattle.std.specs.Prelude.{◌≡◌, ◌<◌, ◌≤◌, ◌+◌, ◌-◌, true, ℕ, List, [], ◌∷◌, ◌++◌, Some, None, length, replicate, slice_set, slice_index_or}
+use Rattle.std.specs.Prelude.{◌≡◌, ◌<◌, ◌≤◌, ◌+◌, ◌-◌, true, ℕ, Option, List, [], ◌∷◌, ◌++◌, Some, None, length, replicate, slice_set, slice_index_or}
 use Rattle.flat_model.specs.declared.plugins.SetSpec.{SetSpec}
 use Rattle.flat_model.specs.declared.journals.Item.{Item}
-use Rattle.flat_model.specs.declared.journals.Item.TheVariants.{Ordered, Got}
+use Rattle.flat_model.specs.declared.journals.Item.TheVariants.{Ordered, Left, Got}
 use Rattle.flat_model.specs.declared.journals.Order.TheVariants.{Install}
 use Rattle.flat_model.specs.declared.journals.Origin.{Origin}
-use Rattle.watcher_api.specs.Attachment.{opening}
+use Rattle.watcher_api.specs.Attachment.{Attachment, opening}
 use Rattle.flat_model.specs.Log.{steps}
 use Rattle.flat_model.specs.World.{Start}
 use Rattle.flat_model.specs.Worlds.{world, hart_of}
@@ -56,3 +56,14 @@ pub record SetMoves (run : Run) (h plugin : ℕ) (past : List Item) : Type 0 whe
 abbrev pub TakesMoveSets : Type 0
 TakesMoveSets = (run : Run) (h plugin : ℕ) (past : List Item)
     → 1 ≤ plugin → plugin ≤ length (plugins run past).plugins → h < run.harts → may_get run h plugin past ≡ true → SetMoves run h plugin past
+
+-- sets of hart h that are put on a shelf
+abbrev pub park_all : ℕ → List Attachment → List (List (Option Attachment)) → List (List (Option Attachment))
+park_all h [] rows = rows
+park_all h (a ∷ sets) rows = park_all h sets (with_place rows (a.plugin - 1) h (Some a))
+
+-- a hart that leaves parks the sets that it has, and nothing else moves
+abbrev pub LeavesParkSets : Type 0
+LeavesParkSets = (run : Run) (h : ℕ) (past : List Item) → h < run.harts
+    → (shelf is_parked run (Left h ∷ past) ≡ park_all h (sets_for is_with_hart run h past) (shelf is_parked run past))
+    × (shelf is_waiting run (Left h ∷ past) ≡ shelf is_waiting run past)

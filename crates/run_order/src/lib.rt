@@ -2,7 +2,7 @@
 //! definitions stand in `specs/`; here is what holds of them.
 #![tactic(auto)]
 
-ghost use Rattle.run_order.specs.Laws.{SetsStay, HartStays, TurnsKeepShelves, InstallsWait, TakesMoveSets};
+ghost use Rattle.run_order.specs.Laws.{SetsStay, HartStays, TurnsKeepShelves, InstallsWait, TakesMoveSets, LeavesParkSets};
 
 /// The sets that a hart has stay as they are while others add to the log.
 #[tactic(auto, using(crate::proofs::Staying::sets_stay))]
@@ -29,4 +29,9 @@ pub fn installs_wait()
 /// A hart that takes a set takes it from where it waits, and nothing else moves.
 pub fn takes_move_sets()
     ensures law { TakesMoveSets }
+{}
+
+/// A hart that leaves parks the sets that it has, and nothing else moves.
+pub fn leaves_park_sets()
+    ensures law { LeavesParkSets }
 {}

@@ -153,7 +153,7 @@ placed_sets : (r : Plugins) (number plugin : ℕ) (p : Plugin) → p.sets ≡ (p
 placed_sets r number plugin p same =
     sets_alike r (with_plugin r number p) plugin (length-set r.plugins (number - 1) p) (set_keeps r.plugins (number - 1) p (plugin - 1) same)
 
-left_sets : (r : Plugins) (k plugin : ℕ) → sets_of (after_leave k r) plugin ≡ sets_of r plugin
+pub left_sets : (r : Plugins) (k plugin : ℕ) → sets_of (after_leave k r) plugin ≡ sets_of r plugin
 left_sets r k plugin =
     sets_alike r (after_leave k r) plugin (length-map r.plugins (without_hart k)) (ap (λ (p : Plugin). p.sets) (left_at k r.plugins (plugin - 1)))
 
