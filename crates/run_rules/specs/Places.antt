@@ -1,6 +1,7 @@
 -- Where the boxes and columns of a plug-in's sets are, by the log of the state that the harts share: that log has two kinds of
 -- item more than a journal, Got and Took, which tell who took what out of the state.
-use Rattle.std.specs.Prelude.{ℕ, ◌+◌, ◌≡◌, ◌==◌, ◌&&◌, ◌||◌, ◌⊎◌, not, Bool, true, false, if◌then◌else◌, List, [], ◌∷◌, length, Option, Some}
+use Rattle.std.specs.Prelude.{ℕ, ◌+◌, ◌≡◌, ◌==◌, ◌&&◌, ◌||◌, ◌⊎◌, not, Bool, true, false, if◌then◌else◌}
+use Rattle.std.specs.Prelude.{List, [], ◌∷◌, length, Option, Some}
 use Rattle.std.specs.Prelude.{None, slice_index_or}
 use Rattle.std.specs.List.{list_all}
 use Rattle.flat_model.specs.declared.journals.Item.{Item}

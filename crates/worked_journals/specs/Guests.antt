@@ -1,6 +1,7 @@
 -- Stand-ins for a guest, on which journals are computed. A stand-in says of each hart how many steps it makes, what each of them
 -- tells, and how long it is parked; no instruction is run.
-use Rattle.std.specs.Prelude.{ℕ, pos, ◌+◌, ◌-◌, ◌*◌, ◌==◌, ◌&&◌, nat_le, nat_lt, Bool, true, false, if◌then◌else◌, List, [], ◌∷◌, ◌++◌, map}
+use Rattle.std.specs.Prelude.{ℕ, pos, ◌+◌, ◌-◌, ◌*◌, ◌==◌, ◌&&◌, nat_le, nat_lt, Bool, true, false}
+use Rattle.std.specs.Prelude.{if◌then◌else◌, List, [], ◌∷◌, ◌++◌, map}
 use Rattle.std.specs.Prelude.{Some, slice_index_or}
 use Rattle.flat_model.specs.declared.events.Class.TheVariants.{Jump, Alu}
 use Rattle.flat_model.specs.declared.events.Ending.{Ending}
