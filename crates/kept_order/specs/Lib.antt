@@ -1,0 +1,5 @@
+pub mod Opening
+pub mod Turning
+pub mod Taking
+pub mod Leaving
+pub mod Hearing
