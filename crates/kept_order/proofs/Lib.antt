@@ -3,3 +3,5 @@ pub mod Turning
 pub mod Taking
 pub mod Leaving
 pub mod Hearing
+pub mod Arriving
+pub mod Fitting

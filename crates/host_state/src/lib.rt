@@ -1,0 +1,10 @@
+//! What the harts of a run share: the guest's memory and services, the plug-ins, the journal, and the boxes on their way.
+#![tactic(auto)]
+
+pub use states::HostState;
+pub use tasks::Task;
+
+mod reading;
+mod states;
+mod tables;
+mod tasks;
