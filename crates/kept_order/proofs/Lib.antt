@@ -1,4 +1,4 @@
-pub mod Opening
+pub mod Openings
 pub mod Turning
 pub mod Taking
 pub mod Leaving
