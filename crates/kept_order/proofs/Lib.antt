@@ -1,5 +1,5 @@
 pub mod Openings
 pub mod Turning
 pub mod Taking
-pub mod Leaving
+pub mod Leaves
 pub mod Hearing

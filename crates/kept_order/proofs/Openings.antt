@@ -161,18 +161,22 @@ installs_keep_order t origin spec old new o legal i =
 
 -- The installs of the plan.
 
+-- what the plan wants, where this is the install that is missing
+abbrev wanted_by : Run → List Item → Option SetSpec → Option Item
+wanted_by run past missing =
+    option_or (option_map (λ spec. Ordered Start (Install spec)) missing) (option_map (line_item past) (owed_line run past))
+
 pub next_installs_stand : NextInstallsStand
 unfolding Legal wanted
 next_installs_stand run spec past legal next none =
     let rule : MayOrder run Start (Install spec) past = record {
       allowed = ap (λ (o : Option OrderRefusal). not (is_some o)) none;
-      given =
-          ap (λ (s : Option SetSpec). option_or (option_map (λ spec. Ordered Start (Install spec)) s) (option_map (line_item past) (owed_line run past))) next;
+      given = ap (wanted_by run past) next;
     } in
     (legal, rule)
 
 pub nothing_is_wanted : NothingIsWanted
 unfolding wanted numbered
 nothing_is_wanted run past empty none =
-    ap (λ (s : Option SetSpec). option_or (option_map (λ spec. Ordered Start (Install spec)) s) (option_map (line_item past) (owed_line run past))) none
+    ap (wanted_by run past) none
     ∙ ap (λ (ts : List Timed). option_map (line_item past) (find (must_stand run past) (numbered 0 ts))) empty
