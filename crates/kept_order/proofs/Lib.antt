@@ -1,7 +1,7 @@
-pub mod Opening
+pub mod Openings
 pub mod Turning
 pub mod Taking
-pub mod Leaving
+pub mod Leaves
 pub mod Hearing
 pub mod Arriving
 pub mod Fitting

@@ -1,5 +1,5 @@
 -- The stored state before any item, and what a registration makes of it.
-use Rattle.std.specs.Prelude.{◌≡◌, ◌+◌, ◌<◌, ℕ, List, [], ◌∷◌, ◌++◌, length, replicate, slice_get, Some, None}
+use Rattle.std.specs.Prelude.{◌≡◌, ◌+◌, List, [], ◌∷◌, ◌++◌, length, replicate, slice_get, Some, None}
 use Rattle.flat_model.specs.declared.plugins.SetSpec.{SetSpec}
 use Rattle.flat_model.specs.declared.journals.Item.{Item}
 use Rattle.flat_model.specs.declared.journals.Item.TheVariants.{Ordered}
