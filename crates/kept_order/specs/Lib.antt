@@ -5,3 +5,6 @@ pub mod Leaving
 pub mod Hearing
 pub mod Arriving
 pub mod Fitting
+pub mod Ordering
+pub mod Returning
+pub mod Closing
