@@ -1,6 +1,6 @@
 -- Harts that have left, while others step: one that has ended has its start, and no step changes it.
 use Rattle.std.proofs.Common.{◌≡◌, ◌==◌, ◌&&◌, ◌||◌, ◌<◌, ◌∷◌, [], ◌∙◌, ℕ, zero, suc, Bool, true, false, not, List, Option, Some, None}
-use Rattle.std.proofs.Common.{refl, sym, ap, subst, arith, nat_lt, inl, inr}
+use Rattle.std.proofs.Common.{refl, sym, ap, subst, arith, inl, inr}
 use Rattle.std.specs.Prelude.{if◌then◌else◌, is_some, slice_index_or, slice_set, replicate}
 use Rattle.std.specs.List.{list_all, range_with_len}
 use Rattle.std.proofs.lemmas.Bool.{cases_Bool, false≢true, lt-ltb, ltb-true, or_left}
@@ -11,13 +11,12 @@ use Rattle.flat_model.specs.declared.journals.Item.TheVariants.{Step, Ordered, G
 use Rattle.flat_model.specs.declared.journals.Mode.{Mode}
 use Rattle.flat_model.specs.declared.journals.Order.TheVariants.{Install, Register, Reset, Uninstall}
 use Rattle.flat_model.specs.Registry.{registry, is_hart, has_left}
-use Rattle.flat_model.specs.Step.{Stepped, step_of, step, step_at, is_over, awoken}
+use Rattle.flat_model.specs.Step.{Stepped, step_of, step, step_at, awoken}
 use Rattle.flat_model.specs.World.{Machine, Start, HartState, Shared, opening_start, hart_by}
 use Rattle.flat_model.specs.Worlds.{world, hart_of}
 use Rattle.flat_model.specs.Image.{word_at}
 use Rattle.run_rules.specs.Guest.{Run, plugins}
 use Rattle.run_rules.specs.Legal.{Legal, is_there, may_step, runs, is_idle, is_finished}
-use Rattle.run_rules.specs.Laws.{IsUntouched}
 use Rattle.run_rules.proofs.Harts.{step_keeps, harts_move_by_their_steps}
 use Rattle.run_rules.proofs.Turns.{first_true, rest_true}
 use Rattle.run_order.specs.InOrder.{Task, task_run}

@@ -1,11 +1,10 @@
 -- Steps keep the state in order.
-use Rattle.std.proofs.Common.{◌≡◌, ◌+◌, ◌<◌, ◌∷◌, ◌∙◌, ℕ, zero, suc, Bool, true, false, List, Option, Some, None}
+use Rattle.std.proofs.Common.{◌≡◌, ◌<◌, ◌∷◌, ◌∙◌, ℕ, zero, suc, Bool, true, false, List, Some, None}
 use Rattle.std.proofs.Common.{refl, sym, ap, subst, arith, map}
 use Rattle.std.specs.Prelude.{if◌then◌else◌}
-use Rattle.std.specs.List.{list_all, range_with_len}
 use Rattle.flat_model.specs.declared.journals.Item.{Item}
 use Rattle.flat_model.specs.declared.journals.Item.TheVariants.{Step}
-use Rattle.flat_model.specs.Log.{log, steps, journaled}
+use Rattle.flat_model.specs.Log.{steps, journaled}
 use Rattle.flat_model.specs.Registry.{registry, has_left}
 use Rattle.flat_model.specs.World.{HartState}
 use Rattle.flat_model.specs.Worlds.{world, hart_of}
@@ -14,9 +13,9 @@ use Rattle.run_rules.specs.Legal.{Legal}
 use Rattle.run_rules.specs.Places.{IsStateLog, place_of, taker, takes_all, is_waiting, is_parked}
 use Rattle.run_rules.proofs.Turns.{plugins_keep}
 use Rattle.run_order.specs.Sets.{shelf, harts_of, notices_of, closers_of}
-use Rattle.run_order.specs.InOrder.{Task, Stored, InOrder, task_run, hart_kept}
+use Rattle.run_order.specs.InOrder.{Task, task_run, hart_kept}
 use Rattle.run_order.proofs.Shelves.{map_same, turns_keep_shelves}
-use Rattle.kept_order.specs.Turning.{Turned, TurnsKeepOrder}
+use Rattle.kept_order.specs.Turning.{TurnsKeepOrder}
 use Rattle.kept_order.proofs.Gone.{left_stays}
 
 -- steps move no set
