@@ -39,7 +39,8 @@ stuck m h hart shared parked =
     ap (λ (b : Bool). if (b || is_some hart.ending) || is_some shared.group
     then (record { hart = hart; shared = shared; events = [] }) else step_at m h hart shared (word_at m.image hart.pc)) parked
 
-stays_asleep : (k harts : ℕ) (before after : Option Start) (hart : HartState) → before ≡ None → after ≡ None → awoken k harts before after hart ≡ hart
+stays_asleep : (k harts : ℕ) (before after : Option Start) (hart : HartState) → before ≡ None → after ≡ None
+    → awoken k harts before after hart ≡ hart
 stays_asleep k harts None None hart old new = refl
 stays_asleep k harts None (Some start) hart old new = absurd cc
 stays_asleep k harts (Some start) after hart old new = absurd cc
@@ -53,7 +54,8 @@ none_before m k hart shared h (Some start) is none =
     absurd cc
 
 unstarted_step : (m : Machine) (mode : Mode) (k h : ℕ) (past : List Item) → (world m mode past).shared.starts h ≡ None
-    → (world m mode (Step k ∷ past)).shared.starts h ≡ None → IsUnstarted (hart_of m mode past h) → IsUnstarted (hart_of m mode (Step k ∷ past) h)
+    → (world m mode (Step k ∷ past)).shared.starts h ≡ None → IsUnstarted (hart_of m mode past h)
+    → IsUnstarted (hart_of m mode (Step k ∷ past) h)
 unfolding world step
 unstarted_step m mode k h past old new is =
     let w = world m mode past in
@@ -165,7 +167,8 @@ abbrev Finished : Task → ℕ → List Item → Type 0
 Finished t j past = is_finished (task_run t) j past ≡ true
 
 finished_stays : (t : Task) (k j : ℕ) (past : List Item) → j < t.machine.harts → may_step (task_run t) k past ≡ true → Finished t j past
-    → (is_some (hart_of t.machine t.mode past j).ending ≡ true) × (hart_of t.machine t.mode (Step k ∷ past) j ≡ hart_of t.machine t.mode past j)
+    → (is_some (hart_of t.machine t.mode past j).ending ≡ true)
+    × (hart_of t.machine t.mode (Step k ∷ past) j ≡ hart_of t.machine t.mode past j)
 finished_stays t k j past low may finished =
     let run = task_run t in
     let there : is_there run k past ≡ true = first_true _ _ may in

@@ -1,5 +1,7 @@
 pub mod Opening
-pub mod Turning
-pub mod Taking
+pub mod Ranges
+pub mod Gone
+pub mod Turns
+pub mod Takes
 pub mod Leaving
 pub mod Hearing

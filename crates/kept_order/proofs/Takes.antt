@@ -1,26 +1,26 @@
 -- Sets that a hart takes.
-use Rattle.std.proofs.Common.{◌≡◌, ◌==◌, ◌&&◌, ◌+◌, ◌-◌, ◌<◌, ◌≤◌, ◌∷◌, [], ◌++◌, ◌∙◌, ℕ, zero, suc, Bool, true, false, not, List, Option, Some, None}
-use Rattle.std.proofs.Common.{refl, sym, ap, subst, arith, nat_lt, nat_le, inl, inr, length, map}
+use Rattle.std.proofs.Common.{◌≡◌, ◌==◌, ◌&&◌, ◌+◌, ◌-◌, ◌<◌, ◌≤◌, ◌∷◌, [], ◌++◌, ◌∙◌, ℕ, zero, suc, Bool, true, false}
+use Rattle.std.proofs.Common.{not, List, Option, Some, None, refl, sym, ap, subst, arith, nat_lt, nat_le, inl, inr, length, map}
 use Rattle.std.specs.Prelude.{if◌then◌else◌, filter}
 use Rattle.std.specs.List.{list_any, filter_map, cons_option, range_with_len}
 use Rattle.std.specs.Cmp.Derive.{both_true}
-use Rattle.std.proofs.lemmas.Bool.{cases_Bool, false≢true, lt-ltb, le-ltb, le-leb, and_right}
+use Rattle.std.proofs.lemmas.Bool.{cases_Bool, false≢true, lt-ltb, le-ltb, le-leb, leb-true, leb-false, and_right}
 use Rattle.std.proofs.lemmas.Bool.Decides.{nat_tests}
 use Rattle.flat_model.specs.declared.journals.Item.{Item}
 use Rattle.flat_model.specs.declared.journals.Item.TheVariants.{Got}
 use Rattle.flat_model.specs.declared.journals.PlugState.{PlugState}
 use Rattle.flat_model.specs.declared.journals.PlugState.TheVariants.{Live, Idle, Resetting, Leaving, Gone}
 use Rattle.flat_model.specs.Log.{log, journaled}
-use Rattle.flat_model.specs.Registry.{Plugins, registry, plugin_of, is_hart, has_left, owes}
+use Rattle.flat_model.specs.Registry.{Plugins, Plugin, no_plugin, registry, plugin_of, is_hart, has_left, owes}
 use Rattle.flat_model.specs.Worlds.{world}
 use Rattle.watcher_api.specs.Attachment.{Attachment}
 use Rattle.run_rules.specs.Guest.{Run, plugins}
 use Rattle.run_rules.specs.Heard.{progress, is_live}
 use Rattle.run_rules.specs.Legal.{Legal, is_there, owes_any, numbers}
-use Rattle.run_rules.specs.Places.{Place, Nowhere, Waiting, WithHart, Parked, Out, IsStateLog, place_of, taker, is_waiting, is_with_hart, is_parked}
-use Rattle.run_rules.specs.Places.{may_get, fits, owed_by, got}
-use Rattle.run_rules.proofs.Fitting.{places_fit}
-use Rattle.run_rules.proofs.Turns.{rest_true}
+use Rattle.run_rules.specs.Places.{Place, Nowhere, Waiting, WithHart, Parked, Out, IsStateLog, place_of, taker}
+use Rattle.run_rules.specs.Places.{is_waiting, is_with_hart, is_parked, may_get, fits, owed_by, got}
+use Rattle.run_rules.proofs.Fitting.{beyond, places_fit}
+use Rattle.run_rules.proofs.Turns.{first_true, rest_true}
 use Rattle.run_order.specs.Sets.{attachment_of, shelf, harts_of, notices_of, closers_of, sets_for}
 use Rattle.run_order.specs.InOrder.{Task, task_run, hart_kept}
 use Rattle.run_order.specs.Laws.{SetMoves, with_place}
@@ -53,17 +53,32 @@ legal_still : (run : Run) (h plugin : ℕ) (past : List Item) → Legal run past
 unfolding Legal
 legal_still run h plugin past legal = (legal, tt)
 
-state_still : (run : Run) (h plugin : ℕ) (past : List Item) → IsStateLog run past → may_get run h plugin past ≡ true → IsStateLog run (Got h plugin ∷ past)
+state_still : (run : Run) (h plugin : ℕ) (past : List Item) → IsStateLog run past → may_get run h plugin past ≡ true
+    → IsStateLog run (Got h plugin ∷ past)
 unfolding IsStateLog
 state_still run h plugin past state may = (state, may)
 
+-- a set that a hart may take is of a plug-in that there is
+gets_installed : (run : Run) (h plugin : ℕ) (past : List Item) → may_get run h plugin past ≡ true
+    → plugin ≤ length (plugins run past).plugins
+gets_installed run h plugin past may =
+    let r = plugins run past in
+    let live : is_live (plugin_of r plugin).state ≡ true = first_true _ _ (rest_true (is_there run h past) _ may) in
+    elim (cases_Bool (nat_le plugin (length r.plugins))) [
+      | inl near ↦ leb-true plugin (length r.plugins) near
+      | inr far ↦
+          let none : plugin_of r plugin ≡ no_plugin =
+          beyond r.plugins (plugin - 1) (omega (arith, leb-false plugin (length r.plugins) far)) in
+          absurd (false≢true (sym (ap (λ (p : Plugin). is_live p.state) none) ∙ live))
+    ]
+
 pub takes_keep_order : TakesKeepOrder
-takes_keep_order t h plugin old new o one most low may d =
+takes_keep_order t h plugin old new o one may d =
     let run = task_run t in
-    let past = Got h plugin ∷ old.past in
+    let low : h < run.harts = there_low run h old.past (first_true _ _ may) in
+    let most = gets_installed run h plugin old.past may in
     let at = sym d.past in
-    let within : plugin ≤ length (plugins run old.past).plugins = subst (λ (r : Plugins). plugin ≤ length r.plugins) o.plugins most in
-    let moves : SetMoves run h plugin old.past = takes_move_sets run h plugin old.past one within low may in
+    let moves : SetMoves run h plugin old.past = takes_move_sets run h plugin old.past one most low may in
     record {
       legal = subst (Legal run) at (legal_still run h plugin old.past o.legal);
       state_log = subst (IsStateLog run) at (state_still run h plugin old.past o.state_log may);
@@ -87,11 +102,17 @@ given test made p = if test p then Some (made p) else None
 abbrev all_given : (ℕ → Bool) → (ℕ → Attachment) → ℕ → ℕ → List Attachment
 all_given test made a n = filter_map (given test made) (range_with_len a n)
 
+abbrev is_before : ℕ → Attachment → Bool
+is_before q a = nat_lt a.plugin q
+
+abbrev is_behind : ℕ → Attachment → Bool
+is_behind q a = nat_lt q a.plugin
+
 abbrev before : ℕ → List Attachment → List Attachment
-before q sets = filter (λ (b : Attachment). nat_lt b.plugin q) sets
+before q sets = filter (is_before q) sets
 
 abbrev behind : ℕ → List Attachment → List Attachment
-behind q sets = filter (λ (b : Attachment). nat_lt q b.plugin) sets
+behind q sets = filter (is_behind q) sets
 
 give : (is : Bool) (x : Attachment) (rest : List Attachment) → is ≡ true → cons_option (if is then Some x else None) rest ≡ x ∷ rest
 give true x rest is = refl
@@ -120,7 +141,7 @@ none_before test made q a (suc n) numbered low =
       | inr no_more ↦ ap (before q) (give_none (test a) (made a) rest no_more) ∙ ih
       | inl is ↦
           ap (before q) (give (test a) (made a) rest is)
-          ∙ drop_it (λ (b : Attachment). nat_lt b.plugin q) (made a) rest (le-ltb (made a).plugin q (omega (arith, low, numbered a))) ∙ ih
+          ∙ drop_it (is_before q) (made a) rest (le-ltb (made a).plugin q (omega (arith, low, numbered a))) ∙ ih
     ]
 
 all_behind : (test : ℕ → Bool) (made : ℕ → Attachment) (q a n : ℕ) → AreNumbered made → q < a
@@ -136,7 +157,7 @@ all_behind test made q a (suc n) numbered low =
       | inl is ↦
           let e = give (test a) (made a) rest is in
           ap (behind q) e
-          ∙ pick (λ (b : Attachment). nat_lt q b.plugin) (made a) rest (lt-ltb q (made a).plugin (omega (arith, low, numbered a)))
+          ∙ pick (is_behind q) (made a) rest (lt-ltb q (made a).plugin (omega (arith, low, numbered a)))
           ∙ ap (λ (sets : List Attachment). made a ∷ sets) ih ∙ sym e
     ]
 
@@ -163,7 +184,8 @@ adds_one old new made q a (suc n) numbered same was is low high =
           give (new a) (made a) (all_given new made (a + 1) n) (ap new (sym e) ∙ is)
           ∙ ap (λ (x : Attachment). x ∷ all_given new made (a + 1) n) (ap made (sym e))
           ∙ ap (λ (sets : List Attachment). made q ∷ sets)
-          (given_same old new made (a + 1) n (λ p far. same p (grind (arith, nat_tests, far, e))) ∙ sym (all_behind old made q (a + 1) n numbered above))
+          (given_same old new made (a + 1) n (λ p far. same p (grind (arith, nat_tests, far, e)))
+          ∙ sym (all_behind old made q (a + 1) n numbered above))
           ∙ ap (λ (sets : List Attachment). sets ++ made q ∷ behind q rest) (sym (none_before old made q (a + 1) n numbered above))
           ∙ ap (λ (sets : List Attachment). before q sets ++ made q ∷ behind q sets) (sym none)
       | inr off ↦
@@ -180,9 +202,9 @@ adds_one old new made q a (suc n) numbered same was is low high =
             | inl has ↦
                 let one : all_given old made a (suc n) ≡ made a ∷ rest = give (old a) (made a) rest has in
                 let kept : before q (made a ∷ rest) ≡ made a ∷ before q rest =
-                pick (λ (b : Attachment). nat_lt b.plugin q) (made a) rest (lt-ltb (made a).plugin q (omega (arith, further, numbered a))) in
+                pick (is_before q) (made a) rest (lt-ltb (made a).plugin q (omega (arith, further, numbered a))) in
                 let dropped : behind q (made a ∷ rest) ≡ behind q rest =
-                drop_it (λ (b : Attachment). nat_lt q b.plugin) (made a) rest (le-ltb q (made a).plugin (omega (arith, further, numbered a))) in
+                drop_it (is_behind q) (made a) rest (le-ltb q (made a).plugin (omega (arith, further, numbered a))) in
                 first ∙ give (old a) (made a) (all_given new made (a + 1) n) has ∙ ap (λ (sets : List Attachment). made a ∷ sets) ih
                 ∙ ap (λ (sets : List Attachment). sets ++ made q ∷ behind q rest) (sym kept)
                 ∙ ap (λ (sets : List Attachment). before q (made a ∷ rest) ++ made q ∷ sets) (sym dropped)
@@ -214,13 +236,15 @@ own_place run h plugin past =
 -- to take changes no set
 sets_by : (run : Run) (h plugin : ℕ) (past : List Item)
     → sets_for is_with_hart run h (Got h plugin ∷ past)
-    ≡ all_given (λ p. is_with_hart (place_of run p h (Got h plugin ∷ past))) (λ p. attachment_of run p h past) 1 (length (plugins run past).plugins)
+    ≡ all_given (λ p. is_with_hart (place_of run p h (Got h plugin ∷ past))) (λ p. attachment_of run p h past) 1
+    (length (plugins run past).plugins)
 unfolding registry progress
 sets_by run h plugin past = refl
 
 pub takes_add_sets : TakesAddSets
-takes_add_sets run h plugin past legal state one most low may =
+takes_add_sets run h plugin past one may =
     let r = plugins run past in
+    let most = gets_installed run h plugin past may in
     let waits : is_waiting (place_of run plugin h past) ≡ true =
     rest_true (is_live (plugin_of r plugin).state) _ (rest_true (is_there run h past) _ may) in
     let moved = taken_place (place_of run plugin h past) waits in
@@ -265,7 +289,8 @@ waits_not run h plugin past legal state there owes one most none =
       | inl waits ↦
           let f : fits place (plugin_of r plugin).state false false ≡ true =
           ap (λ (o : Bool). fits place (plugin_of r plugin).state o false) (sym (owes_none r h plugin one most owes))
-          ∙ ap (λ (g : Bool). fits place (plugin_of r plugin).state (owed_by r plugin h) g) (sym (not_left (is_hart r h) (has_left r h) there))
+          ∙ ap (λ (g : Bool). fits place (plugin_of r plugin).state (owed_by r plugin h) g)
+          (sym (not_left (is_hart r h) (has_left r h) there))
           ∙ places_fit run plugin h past one (there_low run h past there) legal state in
           absurd (false≢true (sym none ∙ both_true there (both_true (waits_live place (plugin_of r plugin).state waits f) waits)))
     ]

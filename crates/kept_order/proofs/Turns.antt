@@ -25,7 +25,8 @@ places_keep run h zero past takes = takes
 places_keep run h (suc n) past takes = places_keep run h n past takes
 
 -- so each of them is one that the state's log allows
-state_log_keeps : (run : Run) (h n : ℕ) (past : List Item) → takes_all run h past ≡ true → IsStateLog run past → IsStateLog run (steps h n past)
+state_log_keeps : (run : Run) (h n : ℕ) (past : List Item) → takes_all run h past ≡ true → IsStateLog run past
+    → IsStateLog run (steps h n past)
 unfolding IsStateLog
 state_log_keeps run h zero past takes state = state
 state_log_keeps run h (suc n) past takes state = (state_log_keeps run h n past takes state, places_keep run h n past takes)
