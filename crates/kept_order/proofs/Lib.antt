@@ -1,7 +1,6 @@
 pub mod Openings
-pub mod Turning
-pub mod Taking
 pub mod Leaves
-pub mod Hearing
-pub mod Arriving
-pub mod Fitting
+pub mod Ranges
+pub mod Gone
+pub mod Turns
+pub mod Takes
