@@ -2,4 +2,6 @@ pub mod Opening
 pub mod Turning
 pub mod Taking
 pub mod Leaving
-pub mod Hearing
+pub mod Listening
+pub mod Walking
+pub mod HeardTurns
