@@ -4,3 +4,6 @@ pub mod Ranges
 pub mod Gone
 pub mod Turns
 pub mod Takes
+pub mod Listening
+pub mod Walking
+pub mod HeardTurns
