@@ -2,13 +2,8 @@
 //! sets of a hart have made of its steps. The definitions stand in `specs/`; here is what holds of them.
 #![tactic(auto)]
 
-pub mod arriving;
-pub mod closing;
-pub mod fitting;
 pub mod hearing;
 pub mod leaving;
 pub mod opening;
-pub mod ordering;
-pub mod returning;
 pub mod taking;
 pub mod turning;
