@@ -18,14 +18,21 @@ use flat_model::{Entry, Item, Trace};
 use rv_exec::{Hart, RawLog, shared_step};
 use watcher_api::{Closer, Held, Watcher};
 
+/// The log with one item more.
+pub(crate) fn with_item(past: &Trace<Item>, item: Item) -> Trace<Item>
+    ensures item { result.items ≡ item ∷ past.now.items }
+{
+    past.before(&item)
+}
+
 /// The log with so many steps of a hart more.
 fn with_steps(past: &Trace<Item>, no: u8, count: u32) -> Trace<Item>
     requires some { 1 ≤ count }
     ensures steps { result.items ≡ steps no count past.now.items }
 {
-    let mut now = past.before(&Item::Step { hart: no });
-    for _made in 1..count {
-        now = now.before(&Item::Step { hart: no });
+    let mut now = with_item(past, Item::Step { hart: no });
+    for _ in 1..count {
+        now = with_item(&now, Item::Step { hart: no });
     }
     now
 }
@@ -86,14 +93,14 @@ impl<W: Watcher, C: Closer<Held<W>>> HostState<W, C> {
         shared_step(
             no,
             hart,
-            &self.task.image,
+            self.task.image(),
             &mut self.memory,
             &mut self.services,
-            self.task.limit,
+            self.task.limit(),
             n,
             raw,
         );
         self.journal.push(Entry::Turn { hart: no, n: 1 });
-        self.past = self.past.before(&Item::Step { hart: no });
+        self.past = with_item(&self.past, Item::Step { hart: no });
     }
 }

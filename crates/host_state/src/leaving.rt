@@ -10,6 +10,7 @@ ghost use Rattle.run_order.specs.InOrder.{task_run};
 ghost use Rattle.run_order.specs.Laws.{park_all};
 ghost use Rattle.host_state.specs.Tables.{rows_of, AreWide};
 
+use crate::committing::with_item;
 use crate::states::HostState;
 use crate::tables::put_at;
 use flat_model::{Entry, Item};
@@ -49,7 +50,7 @@ impl<W: Watcher, C: Closer<Held<W>>> HostState<W, C> {
         self.kept[usize::from(no)] = Some(hart);
         self.registry.left(no);
         self.journal.push(Entry::Leave { hart: no });
-        self.past = self.past.before(&Item::Left { hart: no });
+        self.past = with_item(&self.past, Item::Left { hart: no });
     }
 
     /// The hart found no memory: the state is short from then on, and records nothing more.
