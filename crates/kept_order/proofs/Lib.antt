@@ -5,3 +5,4 @@ pub mod Leaving
 pub mod Listening
 pub mod Walking
 pub mod HeardTurns
+pub mod Asking
