@@ -121,7 +121,7 @@ module _ (asks : List Ask) where
 -- What steps make of the sets.
 
 -- where sets are, while a hart steps
-place_keeps : (run : Run) (plugin h n : ℕ) (past : List Item) → place_of run plugin h (steps h n past) ≡ place_of run plugin h past
+pub place_keeps : (run : Run) (plugin h n : ℕ) (past : List Item) → place_of run plugin h (steps h n past) ≡ place_of run plugin h past
 unfolding place_of
 place_keeps run plugin h zero past = refl
 place_keeps run plugin h (suc n) past = place_keeps run plugin h n past

@@ -7,3 +7,4 @@ pub mod Takes
 pub mod Listening
 pub mod Walking
 pub mod HeardTurns
+pub mod Asking

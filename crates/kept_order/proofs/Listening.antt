@@ -18,11 +18,12 @@ use Rattle.flat_model.specs.declared.journals.PlugState.{PlugState}
 use Rattle.flat_model.specs.declared.journals.PlugState.TheVariants.{Live, Idle, Resetting, Leaving, Gone}
 use Rattle.flat_model.specs.Asks.{stays}
 use Rattle.flat_model.specs.Log.{steps}
-use Rattle.flat_model.specs.Registry.{Plugins, Plugin, no_plugin, plugin_of, is_installed, sets_of, has_left, owes}
+use Rattle.flat_model.specs.Registry.{Plugins, Plugin, no_plugin, plugin_of, is_installed, sets_of, is_hart, has_left, owes}
 use Rattle.run_rules.specs.Guest.{Run, plugins}
 use Rattle.run_rules.specs.Heard.{Progress, progress, is_live, is_listening, last_set, no_set, waiting}
 use Rattle.run_rules.specs.Legal.{Legal, may_step, is_there, runs, owes_any, asks_nothing}
-use Rattle.run_rules.specs.Places.{Place, Nowhere, Waiting, WithHart, Parked, Out, IsStateLog, place_of, is_with_hart, fits, owed_by}
+use Rattle.run_rules.specs.Places.{Place, Nowhere, Waiting, WithHart, Parked, Out, IsStateLog}
+use Rattle.run_rules.specs.Places.{place_of, is_waiting, is_with_hart, takes_all, fits, owed_by}
 use Rattle.run_rules.proofs.Endings.{endings_go_with_states}
 use Rattle.run_rules.proofs.Fitting.{beyond, places_fit}
 use Rattle.run_rules.proofs.Keeping.{gone_none}
@@ -33,12 +34,13 @@ pub record MaySteps (run : Run) (h : ℕ) (past : List Item) : Type 0 where
   pub legal : Legal run past
   pub state_log : IsStateLog run past
   pub steps : may_step run h past ≡ true
+  pub takes : takes_all run h past ≡ true
 
 pub before_steps : (run : Run) (h n : ℕ) (past : List Item)
     → 0 < n → Legal run (steps h n past) → IsStateLog run (steps h n past) → MaySteps run h past
 unfolding Legal IsStateLog
 before_steps run h zero past some legal state = absurd (omega (arith, some))
-before_steps run h (suc zero) past some legal state = record { legal = legal.0; state_log = state.0; steps = legal.1 }
+before_steps run h (suc zero) past some legal state = record { legal = legal.0; state_log = state.0; steps = legal.1; takes = state.1 }
 before_steps run h (suc (suc n)) past some legal state = before_steps run h (suc n) past (omega arith) legal.0 state.0
 
 -- what holds of all numbers in a range
@@ -57,9 +59,9 @@ none_at test n k none one most =
           (omega (arith, one, most, length-range_with_len 1 n)) (ap test (is ∙ omega (arith, one)) ∙ at)))
     ]
 
-not_false : (b : Bool) → not b ≡ true → b ≡ false
-not_false true is = absurd (false≢true is)
-not_false false is = refl
+not_true : (b : Bool) → not b ≡ true → b ≡ false
+not_true true is = absurd (false≢true is)
+not_true false is = refl
 
 pub installed : (r : Plugins) (plugin : ℕ) → 1 ≤ plugin → plugin ≤ length r.plugins → is_installed r plugin ≡ true
 installed r plugin one most = both_true (lt-ltb 0 plugin one) (le-leb plugin (length r.plugins) most)
@@ -71,7 +73,7 @@ owes_none : (run : Run) (h plugin : ℕ) (past : List Item)
 owes_none run h plugin past may one most =
     let r = plugins run past in
     let none : owes_any run h past ≡ false =
-    not_false _ (first_true _ _ (rest_true (runs run h past) _ (rest_true (is_there run h past) _ may))) in
+    not_true _ (first_true _ _ (rest_true (runs run h past) _ (rest_true (is_there run h past) _ may))) in
     sym (ap (λ (b : Bool). b && owed_by r plugin h) (installed r plugin one most))
     ∙ none_at (λ p. owes r h p) (length r.plugins) plugin none one most
 
@@ -86,6 +88,35 @@ with_live WithHart Idle gone with f = absurd (false≢true f)
 with_live WithHart Resetting gone with f = absurd (false≢true f)
 with_live WithHart Leaving gone with f = absurd (false≢true f)
 with_live WithHart Gone gone with f = absurd (false≢true f)
+
+-- and the set of a Live plug-in is with the hart, where it neither waits for it nor is parked
+live_with : (place : Place) (owes : Bool) → not (is_waiting place) ≡ true → fits place Live owes false ≡ true → is_with_hart place ≡ true
+live_with Nowhere owes waits f = absurd (false≢true f)
+live_with Waiting owes waits f = absurd (false≢true waits)
+live_with WithHart owes waits f = refl
+live_with Parked true waits f = absurd (false≢true f)
+live_with Parked false waits f = absurd (false≢true f)
+live_with Out owes waits f = absurd (false≢true f)
+
+state_is : (s : PlugState) → is_live s ≡ true → s ≡ Live
+state_is Live is = refl
+state_is Idle is = absurd (false≢true is)
+state_is Resetting is = absurd (false≢true is)
+state_is Leaving is = absurd (false≢true is)
+state_is Gone is = absurd (false≢true is)
+
+pub live_set_is_there : (run : Run) (h plugin : ℕ) (past : List Item) → h < run.harts → MaySteps run h past
+    → 1 ≤ plugin → plugin ≤ length (plugins run past).plugins → is_live (plugin_of (plugins run past) plugin).state ≡ true
+    → is_with_hart (place_of run plugin h past) ≡ true
+live_set_is_there run h plugin past low may one most live =
+    let r = plugins run past in
+    let place = place_of run plugin h past in
+    let stays : has_left r h ≡ false = not_true _ (rest_true (is_hart r h) _ (first_true (is_there run h past) _ may.steps)) in
+    live_with place (owed_by r plugin h)
+    (all_at (λ p. not (is_waiting (place_of run p h past))) (length r.plugins) plugin may.takes one most)
+    (ap (fits place Live (owed_by r plugin h)) (sym stays)
+    ∙ ap (λ (s : PlugState). fits place s (owed_by r plugin h) (has_left r h)) (sym (state_is (plugin_of r plugin).state live))
+    ∙ places_fit run plugin h past one low may.legal may.state_log)
 
 pub set_is_live : (run : Run) (h plugin : ℕ) (past : List Item) → h < run.harts → MaySteps run h past
     → 1 ≤ plugin → plugin ≤ length (plugins run past).plugins → is_with_hart (place_of run plugin h past) ≡ true
@@ -162,6 +193,23 @@ waits_for run h plugin past log one most live same =
     let asked = (last_progress run plugin h log r).walk.asked in
     ap (waits_in run plugin h log) same
     ∙ ap (λ (b : Bool). if b then asked else Stay) (both_true (installed r plugin one most) live)
+
+-- and a plug-in that has no set with a hart waits for nothing there
+pub waits_for_none : (run : Run) (h plugin : ℕ) (past log : List Item) → h < run.harts → MaySteps run h past → 1 ≤ plugin
+    → is_with_hart (place_of run plugin h past) ≡ false → plugins run log ≡ plugins run past → waiting run plugin h log ≡ Stay
+waits_for_none run h plugin past log low may one without same =
+    let r = plugins run past in
+    let asked = (last_progress run plugin h log r).walk.asked in
+    let there = is_installed r plugin in
+    let live = is_live (plugin_of r plugin).state in
+    ap (waits_in run plugin h log) same
+    ∙ elim (cases_Bool (there && live)) [
+      | inr off ↦ ap (λ (b : Bool). if b then asked else Stay) off
+      | inl is ↦
+          let most : plugin ≤ length r.plugins =
+          leb-true plugin (length r.plugins) (rest_true (nat_lt 0 plugin) _ (first_true there live is)) in
+          absurd (false≢true (sym without ∙ live_set_is_there run h plugin past low may one most (rest_true there live is)))
+    ]
 
 pub asked_none : (run : Run) (h plugin : ℕ) (past : List Item) → asks_nothing run h past ≡ true
     → 1 ≤ plugin → plugin ≤ length (plugins run past).plugins → is_live (plugin_of (plugins run past) plugin).state ≡ true
