@@ -3,5 +3,6 @@ pub mod Turning
 pub mod Taking
 pub mod Leaving
 pub mod Hearing
-pub mod Arriving
+pub mod Numbered
+pub mod Arrivals
 pub mod Fitting
