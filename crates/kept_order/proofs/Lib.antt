@@ -5,4 +5,4 @@ pub mod Leaving
 pub mod Hearing
 pub mod Numbered
 pub mod Arrivals
-pub mod Fitting
+pub mod TurnLengths
