@@ -7,4 +7,6 @@ pub mod Takes
 pub mod Listening
 pub mod Walking
 pub mod HeardTurns
-pub mod Asking
+pub mod Numbered
+pub mod Arrivals
+pub mod TurnLengths

@@ -2,6 +2,8 @@
 //! sets of a hart have made of its steps. The definitions stand in `specs/`; here is what holds of them.
 #![tactic(auto)]
 
+pub mod arriving;
+pub mod fitting;
 pub mod hearing;
 pub mod leaving;
 pub mod opening;
