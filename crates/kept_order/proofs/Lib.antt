@@ -10,3 +10,4 @@ pub mod HeardTurns
 pub mod Numbered
 pub mod Arrivals
 pub mod TurnLengths
+pub mod Asking
