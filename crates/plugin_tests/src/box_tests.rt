@@ -1,10 +1,10 @@
 ghost use Rattle.std.specs.Prelude.{◌≡◌, ◌<◌, None};
 
-use crate::{Closer, Held, Notices, Parked, Recorder, Refuser, Returned, Watcher, rows_of};
 use flat_model::{Ask, Ending, Event, How, Kind, KindName, NoMemory, Row, What};
 use score_boards::{Column, ParkedColumn};
 use std::alloc::Global;
 use std::test::Fail;
+use watcher_api::{Closer, Held, Notices, Parked, Recorder, Refuser, Returned, Watcher, rows_of};
 
 const EXEC: Kind = Kind {
     name: KindName::Exec,
