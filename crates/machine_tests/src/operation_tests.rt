@@ -2,8 +2,8 @@
 
 use flat_model::{AtomicOp, BranchOp, ImmOp, LoadOp, RegOp};
 use rv_alu::{
-    amo_result, atomic_result, atomic_shift, branch_taken, imm_result, load_result, load_shift, load_signed, low_bytes,
-    plus_signed, reg_result, word_extended,
+    amo_result, atomic_result, atomic_shift, branch_taken, imm_result, load_result, load_shift,
+    load_signed, low_bytes, plus_signed, reg_result, word_extended,
 };
 use std::test::Fail;
 
