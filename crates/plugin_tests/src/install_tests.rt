@@ -1,6 +1,6 @@
-use super::*;
 use flat_model::limits::{CLASSES_ALL, KIND_INSN, READS_AND_WRITES};
 use flat_model::{Act, Ask, Filter, Kind, KindName, OrderRefusal, Plan, SetSpec, Sub, Subs};
+use host_core::first_refused;
 use std::alloc::Global;
 use std::test::*;
 

@@ -2,9 +2,9 @@
 
 ghost use Rattle.std.specs.Prelude.{◌≤◌, length};
 
-use crate::private_run;
 use block_finder::length;
 use flat_model::{Ending, FaultKind, Image, Mode, NoMemory, Region};
+use private_runs::private_run;
 use rv_exec::{Hart, RawLog};
 use std::alloc::Global;
 use std::test::Fail;

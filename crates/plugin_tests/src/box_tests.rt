@@ -1,13 +1,19 @@
-ghost use Rattle.std.specs.Prelude.{◌≡◌, ◌<◌, None};
+ghost use Rattle.std.specs.Prelude.{◌≡◌};
 
-use crate::{Closer, Held, Notices, Parked, Recorder, Refuser, Returned, Watcher, rows_of};
 use flat_model::{Ask, Ending, Event, How, Kind, KindName, NoMemory, Row, What};
 use score_boards::{Column, ParkedColumn};
 use std::alloc::Global;
 use std::test::Fail;
+use watcher_api::{Closer, Held, Notices, Parked, Recorder, Refuser, Returned, Watcher, rows_of};
 
 const EXEC: Kind = Kind {
     name: KindName::Exec,
+    quota: 0,
+    ask: Ask::Stay,
+};
+
+const COUNTS: Kind = Kind {
+    name: KindName::Counts,
     quota: 0,
     ask: Ask::Stay,
 };
@@ -54,16 +60,6 @@ fn row(key: u64, a: u64, b: u64) -> Row {
     }
 }
 
-fn asking(name: KindName, quota: u64) -> Kind
-    requires { 0 < quota }
-{
-    Kind {
-        name,
-        quota,
-        ask: Ask::Reset,
-    }
-}
-
 // What a box may be sent as to another thread.
 fn sent<T: Send>(value: T) -> T
     ensures { result ≡ value }
@@ -87,7 +83,7 @@ fn a_recorder_tallies_each_instruction(rt: HostRuntime) -> Result<(), Fail> {
 
 #[test]
 fn counts_have_a_row_for_each_kind_that_occurs(rt: HostRuntime) -> Result<(), Fail> {
-    let rows = rows_of(rt.alloc(), asking(KindName::Counts, 1), &told())?;
+    let rows = rows_of(rt.alloc(), COUNTS, &told())?;
     let want = [row(0, 1, 0), row(2, 3, 0), row(6, 1, 0)];
     assert_eq!(rt; rows.as_slice(), want.as_slice());
     Ok(())
@@ -101,31 +97,6 @@ fn a_recorder_gives_its_events(rt: HostRuntime) -> Result<(), Fail> {
     }
     assert_eq!(rt; held.kind(), EXEC);
     assert_eq!(rt; held.into_inner().events(), told().as_slice());
-    Ok(())
-}
-
-// What a box of the kind answers at each event of `told`.
-fn answers<W: Watcher>(alloc: Global, inner: W, kind: Kind) -> Result<Vec<Option<Ask>>, Fail>
-    requires { W.kind_of inner ≡ None }
-{
-    let mut held = Held::new(inner, kind);
-    let mut asks = Vec::new(alloc);
-    for e in &told() {
-        asks.push(held.call(e).ok())?;
-    }
-    Ok(asks)
-}
-
-#[test]
-fn boxes_ask_at_the_call_of_their_quota(rt: HostRuntime) -> Result<(), Fail> {
-    let alloc = rt.alloc();
-    let stay = Some(Ask::Stay);
-    let want = [stay, stay, Some(Ask::Reset), stay, stay];
-    let recorder = Recorder::blank(alloc);
-    assert_eq!(rt;
-        answers(alloc, recorder, asking(KindName::Exec, 3))?.as_slice(),
-        want.as_slice()
-    );
     Ok(())
 }
 

@@ -3,9 +3,9 @@
 ghost use Rattle.std.specs.Prelude.{◌≤◌, length, IfSome};
 ghost use Rattle.flat_model.specs.declared.limits.TheConstants.{SCRIPT_MOST};
 
-use crate::{ScriptRefusal, ScriptRule, SpecRefusal, SpecRule, plugin_word, script};
 use flat_model::limits::{CLASSES_ALL, READS_AND_WRITES, SCRIPT_MOST, WRITES};
 use flat_model::{Act, Ask, Cond, Filter, Kind, KindName, Op, Order, Refused, Sub, Timed};
+use run_script::{ScriptRefusal, ScriptRule, SpecRefusal, SpecRule, plugin_word, script};
 use std::test::Fail;
 
 const SEVENTEEN: &str = "add:0:1+add:0:1+add:0:1+add:0:1+add:0:1+add:0:1+add:0:1+add:0:1+\

@@ -1,7 +1,10 @@
 //! Worked values: the division table of the manual (section 7.2), and operands at the ends of their ranges.
 
-use super::*;
 use flat_model::{AtomicOp, BranchOp, ImmOp, LoadOp, RegOp};
+use rv_alu::{
+    amo_result, atomic_result, atomic_shift, branch_taken, imm_result, load_result, load_shift,
+    load_signed, low_bytes, plus_signed, reg_result, word_extended,
+};
 use std::test::Fail;
 
 /// The least signed number of 64 bits.

@@ -1,7 +1,7 @@
 //! Words that GNU as 2.40 makes, with their instructions, classes and whether they end a block.
 
-use super::*;
 use flat_model::{AtomicOp, BranchOp, Class, ImmOp, Ins, RegOp};
+use rv_decode::{class_of, decode, encode, ends_block, word_class};
 use std::test::Fail;
 
 const ROWS: [(u32, Ins, Class, bool); 8] = [

@@ -3,8 +3,8 @@
 ghost use Rattle.std.specs.Prelude.{◌≡◌, ◌+◌, ◌^◌, ◌%◌, ◌&&◌, ◌<◌, ◌≤◌, false, length, IfOk};
 ghost use Rattle.guest_memory.specs.Memory.{harts_of};
 
-use crate::{Denied, Memory};
 use flat_model::{Image, NoMemory, Region};
+use guest_memory::{Denied, Memory};
 use std::alloc::Global;
 use std::test::Fail;
 

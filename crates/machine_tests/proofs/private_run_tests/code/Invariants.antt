@@ -1,5 +1,5 @@
 use Rattle.std.proofs.Common.{◌≡◌, ◌*◌, length}
-use Rattle.private_runs.proofs.tests.code.Given as goal
+use Rattle.machine_tests.proofs.private_run_tests.code.Given as goal
 
 abbrev pub invariant-loop-word : goal.invariant-loop-word
 invariant-loop-word l = length l.bytes.items ≡ 4 * l.word-index

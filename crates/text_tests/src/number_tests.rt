@@ -1,7 +1,9 @@
 //! Numbers with their text: the decimals are the bounds that Rust's documentation gives for its types, and the
 //! hexadecimal texts are spelt by hand from the literals beside them.
 
-use super::*;
+use number_text::{
+    put_bytes, put_decimal, put_hex, put_short_hex, put_signed, put_text, put_wide_decimal,
+};
 use std::test::Fail;
 
 #[test]

@@ -3,11 +3,11 @@ ghost use Rattle.watcher_api.specs.Acting.{acts_of};
 ghost use Rattle.instr_lists.specs.Delivery.{acts_with};
 ghost use Rattle.instr_lists.specs.Sorts.{LiesIn};
 
-use crate::{BlockList, ListCache, build, deliver};
 use block_finder::{Block, Site};
 use flat_model::{
     Act, Ask, Class, Cond, Event, Filter, Kind, KindName, NoMemory, Op, SetSpec, Sub, Subs, What,
 };
+use instr_lists::{BlockList, ListCache, build, deliver};
 use std::alloc::Global;
 use std::test::Fail;
 use watcher_api::{Asks, Attached, AttachedSet, HeldAct, Refuser, Watcher, names_its_entries};
