@@ -1,6 +1,6 @@
 //! The state before the first hold: the plan's installs are placed, one after the other.
 
-ghost use Rattle.std.specs.Prelude.{◌≡◌, ◌∷◌, ◌<◌, ◌≤◌, ◌+◌, ◌*◌, [], Some, None, false, length, map, option_map, replicate, slice_get, vec_len};
+ghost use Rattle.std.specs.Prelude.{◌≡◌, ◌∷◌, ◌<◌, ◌≤◌, ◌+◌, ◌*◌, [], Some, None, false, length, map, option_map, replicate, slice_index_or, vec_len};
 ghost use Rattle.std.specs.Prelude.{All, IfOk, OnOk};
 ghost use Rattle.flat_model.specs.declared.limits.TheConstants.{PLUGINS_MOST, RACK_BOXES};
 ghost use Rattle.flat_model.specs.declared.journals.Item.TheVariants.{Ordered};
@@ -134,7 +134,7 @@ impl Task {
     /// The plan's install of an index.
     fn install(&self, i: usize) -> &SetSpec
         requires there { i < length self.now.plan.installs }
-        ensures install { slice_get self.now.plan.installs i ≡ Some result.now }
+        ensures install { result.now ≡ slice_index_or self.now.plan.installs i result.now }
     {
         &self.plan.installs[i]
     }
