@@ -4,14 +4,11 @@ use Rattle.std.specs.Prelude.{position, nat_le, unwrap_or, is_some, ◌&&◌, If
 use Rattle.std.specs.List.{position_or_len}
 use Rattle.std.proofs.lemmas.Bool.Decides.{nat_tests}
 use Rattle.std.proofs.lemmas.List.Sums.{fails_before_first}
-use Rattle.flat_model.specs.declared.plugins.Act.{Act}
-use Rattle.flat_model.specs.declared.plugins.Act.TheVariants.{Call, Inline, Cond}
-use Rattle.flat_model.specs.declared.plugins.Sub.{Sub}
 use Rattle.flat_model.specs.declared.plugins.SetSpec.{SetSpec}
 use Rattle.flat_model.specs.declared.journals.Order.TheVariants.{Install, Register}
 use Rattle.flat_model.specs.declared.limits.TheConstants.{SUBS_MOST}
 use Rattle.flat_model.specs.declared.orders.OrderRefusal.{OrderRefusal}
-use Rattle.flat_model.specs.Registry.{Plugins, first, entry_of, has_bad_entry, entry_at, size_refusal, range_refusal, entry_refusal}
+use Rattle.flat_model.specs.Registry.{Plugins, first, entry_of, has_bad_entry, size_refusal, range_refusal, entry_refusal}
 use Rattle.flat_model.specs.Registry.{set_refusal, box_refusal, count_refusal, state_refusal, refusal}
 use Rattle.watcher_api.specs.Attachment.{IsWithin}
 

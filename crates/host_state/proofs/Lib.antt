@@ -1,1 +1,3 @@
+pub mod AllowedSets
 pub mod Placing
+pub mod Starting

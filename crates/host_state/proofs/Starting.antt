@@ -1,5 +1,5 @@
 -- The state before any item, and once the plan's installs stand.
-use Rattle.std.proofs.Common.{◌≡◌, ◌≤◌, ◌<◌, ◌+◌, ◌-◌, ◌*◌, ◌∙◌, ◌∷◌, ◌++◌, ℕ, zero, suc, false, [], List, length, map, take, get_or, replicate}
+use Rattle.std.proofs.Common.{◌≡◌, ◌≤◌, ◌<◌, ◌+◌, ◌-◌, ◌*◌, ◌∙◌, ◌∷◌, ◌++◌, ℕ, false, [], List, length, map, take, get_or, replicate}
 use Rattle.std.proofs.Common.{Option, Some, None, refl, sym, ap, subst, arith, inr}
 use Rattle.std.specs.Prelude.{slice_get, option_map}
 use Rattle.std.specs.Option.{option_and_then}
@@ -16,10 +16,10 @@ use Rattle.flat_model.specs.Log.{log, log_from, with_entry}
 use Rattle.flat_model.specs.declared.limits.TheConstants.{PLUGINS_MOST, RACK_BOXES}
 use Rattle.flat_model.specs.Permission.{spans_of}
 use Rattle.flat_model.specs.Registry.{Plugins, registry, no_plugins, refusal, after_order}
-use Rattle.flat_model.specs.World.{Machine, Shared, opening_shared}
+use Rattle.flat_model.specs.World.{opening_shared}
 use Rattle.guest_memory.specs.Memory.{MemoryState, harts_of, IsOpening}
 use Rattle.rv_exec.specs.Sharing.{ServicesState, AreOpening, shared_of, IsMemoryOf}
-use Rattle.run_order.specs.InOrder.{Task, Stored, InOrder, task_run}
+use Rattle.run_order.specs.InOrder.{Task, InOrder, task_run}
 use Rattle.kept_order.specs.Opening.{opening_state}
 use Rattle.kept_order.specs.Arriving.{arrivals}
 use Rattle.kept_order.proofs.Openings.{opens_in_order, installs_keep_order, next_installs_stand, nothing_is_wanted}

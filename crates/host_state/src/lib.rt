@@ -7,6 +7,7 @@ pub use tasks::Task;
 mod arrivals;
 mod committing;
 mod leaving;
+mod opening;
 mod reading;
 mod states;
 mod tables;

@@ -15,7 +15,6 @@ ghost use Rattle.host_state.specs.State.{IsWithinLimits, IsCaughtUp};
 ghost use Rattle.host_state.specs.Starting.{HasStarted};
 
 use crate::arrivals::Arrival;
-use crate::committing::with_item;
 use crate::states::HostState;
 use crate::tasks::Task;
 use flat_model::limits::RACK_BOXES;
@@ -111,20 +110,24 @@ fn record_start(
     ensures journal { OnOk result (log journal.new.entries ≡ Ordered Start (Install spec) ∷ log journal.old.entries) }
     ensures past { IfOk result (λ now. now.items ≡ Ordered Start (Install spec) ∷ past.now.items) }
 {
-    let origin = Origin::Start;
     let order = Order::Install { spec };
     registry.reserve_for(&order)?;
     journal.reserve(1)?;
-    let now = with_item(
-        past,
-        Item::Ordered {
-            origin,
-            order: order.copied(alloc)?,
-        },
-    );
+    let item = Item::Ordered {
+        origin: Origin::Start,
+        order: order.copied(alloc)?,
+    };
+    let now = past.before(&item);
+    let Item::Ordered {
+        origin,
+        order: recorded,
+    } = item
+    else {
+        unreachable!()
+    };
     journal.push(Entry::Order {
         origin,
-        order: order.copied(alloc)?,
+        order: recorded,
     });
     registry.apply(order);
     Ok(now)
@@ -142,7 +145,11 @@ impl Task {
 
 impl<W: Watcher, C: Closer<Held<W>>> HostState<W, C> {
     /// The state before any item, without plug-ins.
-    fn without_plugins(alloc: Global, task: Task, rack: Rack<W, C>) -> Result<HostState<W, C>, NoMemory>
+    fn without_plugins(
+        alloc: Global,
+        task: Task,
+        rack: Rack<W, C>,
+    ) -> Result<HostState<W, C>, NoMemory>
         requires limits { IsWithinLimits task.machine }
         requires boxes { RACK_BOXES ≤ vec_len rack.watchers }
         requires closers { PLUGINS_MOST ≤ vec_len rack.closers }
@@ -180,11 +187,23 @@ impl<W: Watcher, C: Closer<Held<W>>> HostState<W, C> {
     {
         let harts = self.task.harts();
         let spec = self.task.install(i).copied(alloc)?;
-        let row = arrivals(alloc, self.registry.count() + 1, &spec, harts, &mut self.rack)?;
+        let row = arrivals(
+            alloc,
+            self.registry.count() + 1,
+            &spec,
+            harts,
+            &mut self.rack,
+        )?;
         self.waiting.push(row)?;
         self.parked.push(empty_row(alloc, harts)?)?;
         self.closers.push(spare_closer(&mut self.rack))?;
-        self.past = record_start(alloc, &mut self.registry, &mut self.journal, &self.past, spec)?;
+        self.past = record_start(
+            alloc,
+            &mut self.registry,
+            &mut self.journal,
+            &self.past,
+            spec,
+        )?;
         Ok(self)
     }
 

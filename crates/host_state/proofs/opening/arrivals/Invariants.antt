@@ -1,4 +1,4 @@
-use Rattle.std.proofs.Common.{◌≡◌, ◌+◌, ◌*◌, map, replicate, Some, None}
+use Rattle.std.proofs.Common.{◌≡◌, ◌+◌, ◌*◌, map, replicate, Some}
 use Rattle.std.specs.Prelude.{option_map, vec_len}
 use Rattle.flat_model.specs.Acts.{calling}
 use Rattle.watcher_api.specs.Attachment.{opening}

@@ -1,4 +1,4 @@
-use Rattle.std.proofs.Common.{◌≤◌, ◌∙◌, length, sym, ap, subst, arith}
+use Rattle.std.proofs.Common.{◌≤◌, length, subst, arith}
 use Rattle.flat_model.specs.Plan.{Planned}
 use Rattle.host_state.proofs.Starting.{all_started}
 use Rattle.host_state.proofs.states.HostState.new.Goals as goal

@@ -1,8 +1,7 @@
-use Rattle.std.proofs.Common.{◌∙◌, ◌≡◌, ◌+◌, ◌*◌, ◌≤◌, ◌<◌, ℕ, List, Option, Some, None, length, replicate, vec_len, refl, sym, ap, subst, arith}
+use Rattle.std.proofs.Common.{◌∙◌, ◌≡◌, ◌+◌, ◌*◌, ℕ, List, Option, Some, None, replicate, vec_len, refl, ap, arith}
 use Rattle.flat_model.specs.Acts.{calling}
 use Rattle.watcher_api.specs.Attachment.{Attachment, opening}
-use Rattle.host_state.specs.State.{StateValue}
-use Rattle.host_state.proofs.Starting.{IsNext, is_next, pushed, untold, started_is_sound, started_more}
+use Rattle.host_state.proofs.Starting.{is_next, pushed, untold, started_is_sound, started_more}
 use Rattle.host_state.proofs.states.HostState.with_install.Goals as goal
 
 pub arrivals-requires-clause-most : goal.arrivals-requires-clause-most
@@ -65,8 +64,12 @@ invariant_of-self g c =
           (c.in_ok-empty_row.ensures.empty ∙ ap (λ (n : ℕ). replicate n None) c.harts-harts.ensures.harts);
       harts = refl;
       closers = pushed _ _ _ _ _ c.in_ok-push-3.ensures.items (untold _ _ _ c.spare_closer.ensures.untold);
-      boxes = omega (arith, c.in_ok-row.ensures.left, ap (λ v. vec_len v) c.spare_closer.ensures.watchers,
-          ap (λ (n : ℕ). n * calling spec.subs) c.harts-harts.ensures.harts);
+      boxes = omega (
+        arith,
+        c.in_ok-row.ensures.left,
+        ap (λ v. vec_len v) c.spare_closer.ensures.watchers,
+        ap (λ (n : ℕ). n * calling spec.subs) c.harts-harts.ensures.harts,
+      );
       spare_closers = c.spare_closer.ensures.left ∙ ap (λ v. vec_len v) c.in_ok-row.ensures.closers;
       failed = refl;
     })
