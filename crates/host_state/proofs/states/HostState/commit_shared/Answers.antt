@@ -62,7 +62,7 @@ invariant_of-self g c =
       past = c.with_item-self-inside.ensures.item;
       journal = c.push.ensures.appends;
       shared = sym after.shared;
-      memory = memory_stays _ _ _ c.shared_step.ensures.layout sound.memory;
+      memory = memory_stays c.self.inside.task.machine.image _ _ c.shared_step.ensures.layout sound.memory;
       places = c.shared_step.ensures.layout.harts ∙ sound.places;
       starts = c.shared_step.ensures.places.starts ∙ sound.starts;
     })
