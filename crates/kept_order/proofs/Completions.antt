@@ -14,25 +14,20 @@ use Rattle.watcher_api.specs.Attachment.{Attachment}
 use Rattle.run_rules.specs.Guest.{Run, plugins}
 use Rattle.run_rules.specs.Heard.{progress, set_at, last_set}
 use Rattle.run_rules.specs.Legal.{Legal}
-use Rattle.run_rules.specs.Places.{Place, Nowhere, Waiting, WithHart, Parked, Out, IsStateLog, place_of, is_waiting, is_parked, taken, taker}
+use Rattle.run_rules.specs.Places.{Place, Nowhere, Waiting, WithHart, Parked, Out, IsStateLog, place_of, is_waiting, is_parked}
+use Rattle.run_rules.specs.Places.{taken, taker}
 use Rattle.run_rules.proofs.Fitting.{complete, installed_from, installed_within}
 use Rattle.run_order.specs.Sets.{Notice, attachment_of, placed_at, shelf, harts_of, notice_of, notices_of, closers_of}
-use Rattle.run_order.specs.InOrder.{Task, InOrder, task_run, hart_kept}
+use Rattle.run_order.specs.InOrder.{InOrder, task_run, hart_kept}
+use Rattle.run_order.proofs.Installing.{map_one}
 use Rattle.run_order.proofs.Shelves.{map_same}
 use Rattle.run_order.proofs.Taking.{map_at, placed_by}
 use Rattle.kept_order.specs.Arriving.{arrival_at, arrivals}
 use Rattle.kept_order.specs.Closing.{ClosingsKeepOrder}
 use Rattle.kept_order.proofs.Notices.{notices_agree}
-use Rattle.kept_order.proofs.Openings.{closer_when, closer}
+use Rattle.kept_order.proofs.Openings.{closer}
 
--- Lists of what numbers give.
-
-map_one : {A : Type 0} (x : A) (f : ℕ → A) (a n : ℕ) → ((k : ℕ) → f k ≡ x) → map f (range_with_len a n) ≡ replicate n x
-map_one x f a zero is = refl
-map_one x f a (suc n) is =
-    ap (λ y. y ∷ map f (range_with_len (a + 1) n)) (is a) ∙ ap (λ ys. x ∷ ys) (map_one x f (a + 1) n is)
-
--- where one number gives something else
+-- a list of what numbers give, where one number gives something else
 set_one : {A : Type 0} (f g : ℕ → A) (a n i : ℕ) (x : A) → i < n → ((k : ℕ) → a ≤ k → k ≢ (a + i) → g k ≡ f k) → g (a + i) ≡ x
     → map g (range_with_len a n) ≡ slice_set (map f (range_with_len a n)) i x
 set_one f g a zero i x within same is = absurd (omega (arith, within))
@@ -57,8 +52,9 @@ table_set : {A : Type 0} (f g : ℕ → ℕ → Option A) (harts n plugin : ℕ)
     → map (λ p. map (g p) (range_with_len 0 harts)) (range_with_len 1 n)
     ≡ slice_set (map (λ p. map (f p) (range_with_len 0 harts)) (range_with_len 1 n)) (plugin - 1) (replicate harts None)
 table_set f g harts n plugin one within same none =
-    plugin_set (λ p. map (f p) (range_with_len 0 harts)) (λ p. map (g p) (range_with_len 0 harts)) n plugin (replicate harts None) one within
-    (λ p low off. map_same (g p) (f p) 0 harts (λ h least high. same p h off)) (map_one None (g plugin) 0 harts none)
+    plugin_set (λ p. map (f p) (range_with_len 0 harts)) (λ p. map (g p) (range_with_len 0 harts)) n plugin (replicate harts None)
+    one within
+    (λ p low off. map_same (g p) (f p) 0 harts (λ h least high. same p h off)) (map_one None (g plugin) 0 harts (λ h low high. none h))
 
 -- Once a closing is taken, no set of the plug-in waits or is parked, and no other set moves.
 
@@ -100,7 +96,8 @@ unfolding registry
 shelf_taken test run party plugin past one within none =
     let now = Took party plugin ∷ past in
     table_set (placed_at test run past) (placed_at test run now) run.harts (length (plugins run past).plugins) plugin one within
-    (λ p h off. placed_by test run past now p h (same_attachment run party plugin p h past) (ap test (off_place run party plugin p h past off)))
+    (λ p h off. placed_by test run past now p h (same_attachment run party plugin p h past)
+    (ap test (off_place run party plugin p h past off)))
     (λ h. ap (λ (b : Bool). if b then Some (attachment_of run plugin h now) else None)
     (ap test (own_place run party plugin h past) ∙ none (place_of run plugin h past)))
 

@@ -1,5 +1,5 @@
 -- The stored state after a party has told the closer of a plug-in.
-use Rattle.std.proofs.Common.{◌≡◌, ◌==◌, ◌&&◌, ◌+◌, ◌-◌, ◌<◌, ◌≤◌, ◌∷◌, [], ◌++◌, ◌∙◌, ℕ, Bool, true, false, List}
+use Rattle.std.proofs.Common.{◌≡◌, ◌==◌, ◌&&◌, ◌-◌, ◌<◌, ◌≤◌, ◌∷◌, [], ◌++◌, ◌∙◌, ℕ, Bool, true, false, List}
 use Rattle.std.proofs.Common.{Option, Some, None, refl, sym, ap, subst, arith, inl, inr, nat_lt, nat_le, length, map}
 use Rattle.std.specs.Prelude.{if◌then◌else◌, ◌⊎◌, slice_set, slice_index_or, is_some}
 use Rattle.std.specs.List.{range_with_len}
@@ -12,13 +12,14 @@ use Rattle.flat_model.specs.declared.journals.Item.TheVariants.{Told}
 use Rattle.flat_model.specs.declared.journals.PlugState.{PlugState}
 use Rattle.flat_model.specs.declared.journals.PlugState.TheVariants.{Live, Idle, Resetting, Leaving, Gone}
 use Rattle.flat_model.specs.Log.{journaled}
-use Rattle.flat_model.specs.Registry.{Plugins, Plugin, registry, plugin_of, sets_of, is_installed, after_done, done_state, is_closing, is_complete}
+use Rattle.flat_model.specs.Registry.{Plugins, Plugin, registry, plugin_of, sets_of, is_installed, after_done, done_state}
+use Rattle.flat_model.specs.Registry.{is_closing, is_complete}
 use Rattle.flat_model.specs.Worlds.{world}
 use Rattle.watcher_api.specs.Attachment.{Attachment}
 use Rattle.run_rules.specs.Guest.{Run, plugins}
 use Rattle.run_rules.specs.Heard.{progress, no_set}
 use Rattle.run_rules.specs.Legal.{Legal}
-use Rattle.run_rules.specs.Places.{Place, Nowhere, IsStateLog, StateRule, place_of, is_waiting, is_parked, taker, replaying}
+use Rattle.run_rules.specs.Places.{Place, Nowhere, IsStateLog, place_of, is_waiting, is_parked, taker, replaying}
 use Rattle.run_rules.proofs.Fitting.{complete, number_is, installed_from, installed_within, other_place, same_place}
 use Rattle.run_rules.proofs.Turns.{first_true}
 use Rattle.run_order.specs.Sets.{Notice, attachment_of, placed_at, shelf, harts_of, notice_of, notices_of, closers_of}
@@ -101,13 +102,15 @@ same_arrival run party plugin p h past one low gone =
       | inl own ↦
           let before : arrival_at run past plugin h ≡ None = ap (spec_if (last_spec (sets_of r plugin))) gone in
           let after : arrival_at run now plugin h ≡ None =
-          ap (λ (q : Place). spec_if (last_spec (sets_of (after_done plugin r) plugin)) (is_waiting q)) (own_place run party plugin h past) in
+          ap (λ (q : Place). spec_if (last_spec (sets_of (after_done plugin r) plugin)) (is_waiting q))
+          (own_place run party plugin h past) in
           subst (λ (k : ℕ). arrival_at run now k h ≡ arrival_at run past k h) (number_is plugin p own) (after ∙ sym before)
     ]
 
 -- a table by plug-in and hart that stays
 table_same : {A : Type 0} (f g : ℕ → ℕ → A) (harts n m : ℕ) → m ≡ n → ((p h : ℕ) → 1 ≤ p → h < harts → g p h ≡ f p h)
-    → map (λ p. map (g p) (range_with_len 0 harts)) (range_with_len 1 m) ≡ map (λ p. map (f p) (range_with_len 0 harts)) (range_with_len 1 n)
+    → map (λ p. map (g p) (range_with_len 0 harts)) (range_with_len 1 m)
+    ≡ map (λ p. map (f p) (range_with_len 0 harts)) (range_with_len 1 n)
 table_same f g harts n m long same =
     ap (λ (k : ℕ). map (λ p. map (g p) (range_with_len 0 harts)) (range_with_len 1 k)) long
     ∙ map_same (λ p. map (g p) (range_with_len 0 harts)) (λ p. map (f p) (range_with_len 0 harts)) 1 n
@@ -174,8 +177,9 @@ closers_told run party plugin past is =
     let one : 1 ≤ plugin = installed_from r plugin c.0 in
     let within : plugin - 1 < length r.plugins = installed_within r plugin c.0 in
     ap (λ (n : ℕ). map (closer run now) (range_with_len 1 n)) (as_many r plugin)
-    ∙ plugin_set (closer run past) (closer run now) (length r.plugins) plugin (Some (notices_of run plugin past ++ notice_of run plugin past ∷ []))
-    one within (λ p low off. off_closer run party plugin p past one low off) (own_closer run party plugin past within)
+    ∙ plugin_set (closer run past) (closer run now) (length r.plugins) plugin
+    (Some (notices_of run plugin past ++ notice_of run plugin past ∷ [])) one within
+    (λ p low off. off_closer run party plugin p past one low off) (own_closer run party plugin past within)
 
 -- who tells the closer has taken the closing, or a replay has
 was_taken : (took : Option ℕ) (party plugin : ℕ) → (took ≡ Some party) ⊎ (took ≡ Some (replaying plugin)) → is_some took ≡ true

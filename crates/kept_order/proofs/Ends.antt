@@ -1,10 +1,9 @@
 -- A set is somewhere exactly while its plug-in is Live or withdraws it.
 use Rattle.std.proofs.Common.{◌≡◌, ◌≢◌, ◌==◌, ◌&&◌, ◌+◌, ◌-◌, ◌≤◌, ◌∷◌, [], ◌++◌, ◌∙◌, ℕ, zero, suc, Bool, true, false, not, List}
-use Rattle.std.proofs.Common.{Option, Some, None, refl, sym, ap, subst, arith, inl, inr, length}
+use Rattle.std.proofs.Common.{Option, Some, None, refl, sym, ap, arith, inl, inr, length}
 use Rattle.std.specs.Prelude.{if◌then◌else◌, slice_set, slice_get, is_some}
 use Rattle.std.proofs.lemmas.Bool.{cases_Bool, false≢true}
 use Rattle.std.proofs.lemmas.Bool.Decides.{nat_tests}
-use Rattle.flat_model.specs.declared.plugins.SetSpec.{SetSpec}
 use Rattle.flat_model.specs.declared.journals.How.{How}
 use Rattle.flat_model.specs.declared.journals.How.TheVariants as how
 use Rattle.flat_model.specs.declared.journals.Item.{Item}
@@ -95,7 +94,8 @@ moved_stays false f place same = refl
 
 -- The orders that withdraw a set.
 
-last_added : (endings more : List How) (h : How) (n : ℕ) → length endings + 1 ≡ n → more ≡ h ∷ [] → slice_get (endings ++ more) (n - 1) ≡ Some h
+last_added : (endings more : List How) (h : How) (n : ℕ) → length endings + 1 ≡ n → more ≡ h ∷ []
+    → slice_get (endings ++ more) (n - 1) ≡ Some h
 last_added [] more h n long is = rw is (ap (λ (i : ℕ). slice_get (h ∷ []) i) {x = n - 1} {y = 0} (omega (arith, long)))
 last_added (e ∷ endings) more h n long is =
     let next : n - 1 ≡ suc (n - 1 - 1) = omega (arith, long) in
@@ -143,37 +143,38 @@ tells false Resetting ending closing f = absurd (false≢true f)
 tells there Leaving ending closing f = refl
 tells there Gone ending closing f = absurd (false≢true closing)
 
--- A plug-in that an item names, and one that it doesn't.
+-- A plug-in that an item changes, and one that it doesn't.
 
-off_goes : (r : Plugins) (number plugin : ℕ) (p : Plugin) (place : Place) → is_installed r number ≡ true → 1 ≤ plugin
-    → (number == plugin) ≡ false → goes_in place (plugin_of r plugin) ≡ true → goes_in place (plugin_of (with_plugin r number p) plugin) ≡ true
-off_goes r number plugin p place installed one off f =
-    ap (goes_in place) (other_place r number plugin p (installed_from r number installed) one off) ∙ f
+pub off_holds : (test : Plugin → Bool) (r : Plugins) (number plugin : ℕ) (p : Plugin) → is_installed r number ≡ true → 1 ≤ plugin
+    → (number == plugin) ≡ false → test (plugin_of r plugin) ≡ true → test (plugin_of (with_plugin r number p) plugin) ≡ true
+off_holds test r number plugin p installed one off f =
+    ap test (other_place r number plugin p (installed_from r number installed) one off) ∙ f
 
-on_goes : (r : Plugins) (number plugin : ℕ) (p : Plugin) (place : Place) → is_installed r number ≡ true
-    → (number == plugin) ≡ true → goes_in place p ≡ true → goes_in place (plugin_of (with_plugin r number p) plugin) ≡ true
-on_goes r number plugin p place installed at f =
-    ap (λ (n : ℕ). goes_in place (plugin_of (with_plugin r number p) n)) (sym (number_is number plugin at))
-    ∙ ap (goes_in place) (same_place r number p (installed_within r number installed)) ∙ f
+pub on_holds : (test : Plugin → Bool) (r : Plugins) (number plugin : ℕ) (p : Plugin) → is_installed r number ≡ true
+    → (number == plugin) ≡ true → test p ≡ true → test (plugin_of (with_plugin r number p) plugin) ≡ true
+on_holds test r number plugin p installed at f =
+    ap (λ (n : ℕ). test (plugin_of (with_plugin r number p) n)) (sym (number_is number plugin at))
+    ∙ ap test (same_place r number p (installed_within r number installed)) ∙ f
 
--- with one plug-in changed, each goes where that one does
-placed_goes : (r : Plugins) (number plugin : ℕ) (p : Plugin) (place : Place) → is_installed r number ≡ true → 1 ≤ plugin
-    → goes_in place (plugin_of r plugin) ≡ true → (number ≡ plugin → goes_in place p ≡ true)
-    → goes_in place (plugin_of (with_plugin r number p) plugin) ≡ true
-placed_goes r number plugin p place installed one old new =
+pub either_holds : (test : Plugin → Bool) (r : Plugins) (number plugin : ℕ) (p : Plugin) → is_installed r number ≡ true → 1 ≤ plugin
+    → test (plugin_of r plugin) ≡ true → (test (plugin_of r number) ≡ true → test p ≡ true)
+    → test (plugin_of (with_plugin r number p) plugin) ≡ true
+either_holds test r number plugin p installed one old new =
     elim (cases_Bool (number == plugin)) [
-      | inl at ↦ on_goes r number plugin p place installed at (new (number_is number plugin at))
-      | inr off ↦ off_goes r number plugin p place installed one off old
+      | inl at ↦ on_holds test r number plugin p installed at
+          (new (ap (λ (n : ℕ). test (plugin_of r n)) (number_is number plugin at) ∙ old))
+      | inr off ↦ off_holds test r number plugin p installed one off old
     ]
 
-live_fits : (p : Plugin) → EndingsFit p → p.state ≡ Live → length p.endings + 1 ≡ length p.sets
-live_fits p fit live = fit.0 (ap is_live live)
+-- the endings of every plug-in go with its state
+abbrev AllFit : Plugins → Type 0
+AllFit r = (q : ℕ) → 1 ≤ q → EndingsFit (plugin_of r q)
 
 abbrev placed_by : Plugins → Order → ℕ → Place → Place
 placed_by r order plugin place = if registers r order plugin then Waiting else place
 
 order_goes : (r : Plugins) (order : Order) (place : Place) (plugin : ℕ) → 1 ≤ plugin → allowed r order ≡ true
-    → EndingsFit (plugin_of r plugin) → goes_in place (plugin_of r plugin) ≡ true
+    → AllFit r → goes_in place (plugin_of r plugin) ≡ true
     → goes_in (placed_by r order plugin place) (plugin_of (after_order order r) plugin) ≡ true
 order_goes r (Install spec) place plugin one is fit f =
     elim (cases_Bool (length r.plugins + 1 == plugin)) [
@@ -187,30 +188,29 @@ order_goes r (Register number spec) place plugin one is fit f =
     let a = register_admitted r number spec is in
     let now = with_set (plugin_of r number) spec in
     elim (cases_Bool (number == plugin)) [
-      | inl at ↦ rw at (on_goes r number plugin now Waiting a.0 at refl)
-      | inr off ↦ rw off (off_goes r number plugin now place a.0 one off f)
+      | inl at ↦ rw at (on_holds (goes_in Waiting) r number plugin now a.0 at refl)
+      | inr off ↦ rw off (off_holds (goes_in place) r number plugin now a.0 one off f)
     ]
 order_goes r (Reset number) place plugin one is fit f =
     let a = reset_admitted r number is in
     let p = plugin_of r number in
-    placed_goes r number plugin (withdrawn p Resetting how.Reset r.gone) place a.0 one f
-    (λ e. resets (is_somewhere place) p.state number (length p.sets) p.endings (last_ending p) a.1
-    (live_fits p (subst (λ (n : ℕ). EndingsFit (plugin_of r n)) (sym e) fit))
-    (subst (λ (n : ℕ). goes_in place (plugin_of r n) ≡ true) (sym e) f))
+    either_holds (goes_in place) r number plugin (withdrawn p Resetting how.Reset r.gone) a.0 one f
+    (resets (is_somewhere place) p.state number (length p.sets) p.endings (last_ending p) a.1
+    (λ live. (fit number (installed_from r number a.0)).0 (ap is_live live)))
 order_goes r (Uninstall number) place plugin one is fit f =
     let a = uninstall_admitted r number is in
     let p = plugin_of r number in
-    placed_goes r number plugin (withdrawn p Leaving how.Uninstall r.gone) place a.0 one f
-    (λ e. uninstalls (is_somewhere place) p.state number (length p.sets) p.endings a.1
-    (live_fits p (subst (λ (n : ℕ). EndingsFit (plugin_of r n)) (sym e) fit))
-    (subst (λ (n : ℕ). goes_in place (plugin_of r n) ≡ true) (sym e) f))
+    either_holds (goes_in place) r number plugin (withdrawn p Leaving how.Uninstall r.gone) a.0 one f
+    (uninstalls (is_somewhere place) p.state number (length p.sets) p.endings a.1
+    (λ live. (fit number (installed_from r number a.0)).0 (ap is_live live)))
 
 -- a set that is moved, of a plug-in that stays as it is
 moved_goes : (p : Plugin) (moves : Bool) (f : Place → Place) (place : Place) → ((q : Place) → is_somewhere (f q) ≡ is_somewhere q)
     → goes_in place p ≡ true → goes_in (if moves then f place else place) p ≡ true
 moved_goes p moves f place same g = ap (λ (there : Bool). goes there p.state (last_ending p)) (moved_stays moves f place same) ∙ g
 
-tell_goes : (r : Plugins) (q : ℕ) (place : Place) (plugin : ℕ) → 1 ≤ plugin → is_complete r q ≡ true → goes_in place (plugin_of r plugin) ≡ true
+tell_goes : (r : Plugins) (q : ℕ) (place : Place) (plugin : ℕ) → 1 ≤ plugin → is_complete r q ≡ true
+    → goes_in place (plugin_of r plugin) ≡ true
     → goes_in (if q == plugin then Nowhere else place) (plugin_of (after_done q r) plugin) ≡ true
 tell_goes r q place plugin one is f =
     let p = plugin_of r q in
@@ -218,14 +218,13 @@ tell_goes r q place plugin one is f =
     let c = complete r q 0 is in
     elim (cases_Bool (q == plugin)) [
       | inl at ↦
-          let g : goes_in place p ≡ true = subst (λ (n : ℕ). goes_in place (plugin_of r n) ≡ true) (sym (number_is q plugin at)) f in
-          rw at (on_goes r q plugin now Nowhere c.0 at (tells (is_somewhere place) p.state (last_ending p) c.1 g))
-      | inr off ↦ rw off (off_goes r q plugin now place c.0 one off f)
+          let g : goes_in place p ≡ true = ap (λ (n : ℕ). goes_in place (plugin_of r n)) (number_is q plugin at) ∙ f in
+          rw at (on_holds (goes_in Nowhere) r q plugin now c.0 at (tells (is_somewhere place) p.state (last_ending p) c.1 g))
+      | inr off ↦ rw off (off_holds (goes_in place) r q plugin now c.0 one off f)
     ]
 
 item_goes : (run : Run) (plugin h : ℕ) (x : Item) (past : List Item) → 1 ≤ plugin → Rule run x past
-    → EndingsFit (plugin_of (plugins run past) plugin)
-    → goes_in (place_of run plugin h past) (plugin_of (plugins run past) plugin) ≡ true
+    → AllFit (plugins run past) → goes_in (place_of run plugin h past) (plugin_of (plugins run past) plugin) ≡ true
     → goes_in (place_of run plugin h (x ∷ past)) (plugin_of (plugins run (x ∷ past)) plugin) ≡ true
 unfolding registry place_of
 item_goes run plugin h (Step hart) past one rule fit f = f
@@ -238,9 +237,8 @@ item_goes run plugin h (GaveBack hart number) past one rule fit f =
     let moved = if (hart == h) && (number == plugin) then given_back place else place in
     let now : goes_in moved (plugin_of r plugin) ≡ true =
     moved_goes (plugin_of r plugin) ((hart == h) && (number == plugin)) given_back place given_stays f in
-    placed_goes r number plugin (record p { owing = slice_set p.owing hart false }) moved
-    (first_true (is_installed r number) _ (first_true (owes r hart number) _ rule)) one now
-    (λ e. subst (λ (n : ℕ). goes_in moved (plugin_of r n) ≡ true) (sym e) now)
+    either_holds (goes_in moved) r number plugin (record p { owing = slice_set p.owing hart false })
+    (first_true (is_installed r number) _ (first_true (owes r hart number) _ rule)) one now (λ same. same)
 item_goes run plugin h (Left hart) past one rule fit f =
     let r = plugins run past in
     let place = place_of run plugin h past in
@@ -262,7 +260,8 @@ sets_go : (run : Run) (plugin h : ℕ) (past : List Item) → 1 ≤ plugin → L
 unfolding Legal
 sets_go run plugin h [] one legal = opening_goes run plugin h
 sets_go run plugin h (x ∷ past) one legal =
-    item_goes run plugin h x past one legal.1 (endings_go_with_states run plugin past one legal.0) (sets_go run plugin h past one legal.0)
+    item_goes run plugin h x past one legal.1 (λ q low. endings_go_with_states run q past low legal.0)
+    (sets_go run plugin h past one legal.0)
 
 -- So a set of a plug-in that closes is somewhere exactly where the plug-in withdraws it.
 

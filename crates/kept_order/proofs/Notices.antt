@@ -1,6 +1,6 @@
 -- What the closer of a plug-in that is complete is told: the sets that the state has are those that the log says.
 use Rattle.std.proofs.Common.{◌≡◌, ◌||◌, ◌+◌, ◌-◌, ◌<◌, ◌≤◌, ◌∷◌, [], ◌++◌, ◌∙◌, ℕ, zero, suc, Bool, true, false, List}
-use Rattle.std.proofs.Common.{Option, Some, None, refl, sym, ap, arith, length, map}
+use Rattle.std.proofs.Common.{Option, Some, None, refl, ap, arith, length, map}
 use Rattle.std.specs.Prelude.{if◌then◌else◌, slice_index_or}
 use Rattle.std.specs.Option.{option_or, option_map_or}
 use Rattle.std.specs.List.{range_with_len, filter_map, flat_map, cons_option}
@@ -76,6 +76,9 @@ either_set : (first second : Bool) (a : Attachment) → option_or (set_if first 
 either_set true second a = refl
 either_set false second a = refl
 
+abbrev Rows : Type 0
+Rows = List (List (Option Attachment))
+
 -- the set that the state has for a hart
 set_closed : (run : Run) (past : List Item) (s : Stored) (plugin h : ℕ) → h < run.harts → Legal run past → IsStateLog run past
     → s.waiting ≡ shelf is_waiting run past → s.parked ≡ shelf is_parked run past
@@ -88,15 +91,17 @@ set_closed run past s plugin h low legal state waits parks is none =
     let c = complete r plugin h is in
     let one : 1 ≤ plugin = installed_from r plugin c.0 in
     let within : plugin - 1 < length r.plugins = installed_within r plugin c.0 in
-    ap (λ (rows : List (List (Option Attachment))). option_or (at_place rows (plugin - 1) h) (at_place s.parked (plugin - 1) h)) waits
-    ∙ ap (λ (rows : List (List (Option Attachment))). option_or (at_place (shelf is_waiting run past) (plugin - 1) h) (at_place rows (plugin - 1) h)) parks
-    ∙ ap (λ (o : Option Attachment). option_or o (at_place (shelf is_parked run past) (plugin - 1) h)) (on_shelf is_waiting run past plugin h one within low)
+    ap (λ (rows : Rows). option_or (at_place rows (plugin - 1) h) (at_place s.parked (plugin - 1) h)) waits
+    ∙ ap (λ (rows : Rows). option_or (at_place (shelf is_waiting run past) (plugin - 1) h) (at_place rows (plugin - 1) h)) parks
+    ∙ ap (λ (o : Option Attachment). option_or o (at_place (shelf is_parked run past) (plugin - 1) h))
+    (on_shelf is_waiting run past plugin h one within low)
     ∙ ap (option_or (placed_at is_waiting run past plugin h)) (on_shelf is_parked run past plugin h one within low)
     ∙ either_set (is_waiting place) (is_parked place) a
     ∙ ap (λ (b : Bool). set_if b a) (closing_inside run plugin h past low legal state is none)
 
 abbrev notice_with : ℕ → Plugins → List (Parked Heard) → List ParkedColumn → Notice
-notice_with plugin r boxes columns = record { plugin = plugin; how = how_closed (plugin_of r plugin).state; boxes = boxes; columns = columns }
+notice_with plugin r boxes columns =
+    record { plugin = plugin; how = how_closed (plugin_of r plugin).state; boxes = boxes; columns = columns }
 
 abbrev boxes_from : Run → Stored → ℕ → List (Parked Heard)
 boxes_from run s plugin = flat_map (λ h. option_map_or (boxes_back h) (closed_set s plugin h) []) (harts_of run)

@@ -4,7 +4,6 @@ use Rattle.std.proofs.Common.{Option, Some, None, refl, sym, ap, subst, arith, i
 use Rattle.std.specs.Prelude.{if◌then◌else◌, slice_set, is_some}
 use Rattle.std.proofs.lemmas.Bool.{cases_Bool, false≢true}
 use Rattle.std.proofs.lemmas.Bool.Decides.{nat_tests}
-use Rattle.flat_model.specs.declared.plugins.SetSpec.{SetSpec}
 use Rattle.flat_model.specs.declared.journals.How.TheVariants as how
 use Rattle.flat_model.specs.declared.journals.Item.{Item}
 use Rattle.flat_model.specs.declared.journals.Item.TheVariants.{Step, Ordered, GaveBack, Left, Told, Got, Took}
@@ -13,19 +12,20 @@ use Rattle.flat_model.specs.declared.journals.Order.TheVariants.{Install, Regist
 use Rattle.flat_model.specs.declared.journals.Origin.{Origin}
 use Rattle.flat_model.specs.declared.journals.PlugState.{PlugState}
 use Rattle.flat_model.specs.declared.journals.PlugState.TheVariants.{Live, Idle, Resetting, Leaving, Gone}
-use Rattle.flat_model.specs.Registry.{Plugins, Plugin, plugin_of, is_installed, registry, is_closing, is_complete, owes, has_left, is_withdrawing}
+use Rattle.flat_model.specs.Registry.{Plugins, Plugin, plugin_of, is_installed, registry, is_closing, is_complete, owes, has_left}
+use Rattle.flat_model.specs.Registry.{is_withdrawing}
 use Rattle.flat_model.specs.Registry.{after_back, after_done}
-use Rattle.flat_model.specs.Registry.{with_plugin, with_set, withdrawn, done_state, next_state}
+use Rattle.flat_model.specs.Registry.{with_set, withdrawn, done_state, next_state}
 use Rattle.run_rules.specs.Guest.{Run, plugins}
 use Rattle.run_rules.specs.Due.{allowed}
 use Rattle.run_rules.specs.Legal.{Legal, Rule}
-use Rattle.run_rules.specs.Places.{Place, Nowhere, Waiting, WithHart, Parked, Out, place_of, registers, got, given_back, left, taken, taker}
+use Rattle.run_rules.specs.Places.{Place, Nowhere, Waiting, WithHart, Parked, Out, place_of, got, given_back, left, taken, taker}
 use Rattle.run_rules.specs.Places.{IsStateLog, StateRule, fits, fits_in, owed_by, is_out, is_waiting, is_parked}
 use Rattle.run_rules.proofs.Fitting.{register_admitted, reset_admitted, uninstall_admitted, complete, number_is, append_last, append_other}
-use Rattle.run_rules.proofs.Fitting.{other_place, same_place, left_at, installed_from, installed_within, places_fit}
+use Rattle.run_rules.proofs.Fitting.{left_at, installed_from, places_fit}
 use Rattle.run_rules.proofs.Growing.{fresh}
 use Rattle.run_rules.proofs.Turns.{first_true}
-use Rattle.kept_order.proofs.Ends.{is_somewhere, withdrawn_somewhere}
+use Rattle.kept_order.proofs.Ends.{is_somewhere, withdrawn_somewhere, on_holds, off_holds, either_holds}
 
 -- Whether a set may be there, by whether its plug-in closes and whether a party has taken the closing: it is out, or nowhere, once a party
 -- has, and isn't out before.
@@ -41,8 +41,11 @@ lies place false took = true
 lies place true true = is_handed place
 lies place true false = not (is_out place)
 
-abbrev lies_in : Place → Plugin → Option ℕ → Bool
-lies_in place p took = lies place (is_closing p.state) (is_some took)
+abbrev lies_in : Place → Option ℕ → Plugin → Bool
+lies_in place took p = lies place (is_closing p.state) (is_some took)
+
+abbrev LiesIn : Run → ℕ → ℕ → List Item → Type 0
+LiesIn run plugin h past = lies_in (place_of run plugin h past) (taker plugin past) (plugin_of (plugins run past) plugin) ≡ true
 
 -- a move that takes no set out, and none that is out to elsewhere
 record KeepsOut (f : Place → Place) : Type 0 where
@@ -106,7 +109,7 @@ keeps_lying f place true true keeps = keeps.handed place
 keeps_lying f place true false keeps = ap not (keeps.out place)
 
 moved_lies : (moves : Bool) (f : Place → Place) (place : Place) (p : Plugin) (took : Option ℕ) → KeepsOut f
-    → lies_in place p took ≡ true → lies_in (if moves then f place else place) p took ≡ true
+    → lies_in place took p ≡ true → lies_in (if moves then f place else place) took p ≡ true
 moved_lies true f place p took keeps l = keeps_lying f place (is_closing p.state) (is_some took) keeps ∙ l
 moved_lies false f place p took keeps l = l
 
@@ -154,42 +157,27 @@ done_lies place Resetting took closing = refl
 done_lies place Leaving took closing = refl
 done_lies place Gone took closing = absurd (false≢true closing)
 
--- a plug-in that an item names, and one that it doesn't
-off_lies : (r : Plugins) (number plugin : ℕ) (p : Plugin) (place : Place) (took : Option ℕ) → is_installed r number ≡ true → 1 ≤ plugin
-    → (number == plugin) ≡ false → lies_in place (plugin_of r plugin) took ≡ true
-    → lies_in place (plugin_of (with_plugin r number p) plugin) took ≡ true
-off_lies r number plugin p place took installed one off l =
-    ap (λ (q : Plugin). lies_in place q took) (other_place r number plugin p (installed_from r number installed) one off) ∙ l
-
-on_lies : (r : Plugins) (number plugin : ℕ) (p : Plugin) (place : Place) (took : Option ℕ) → is_installed r number ≡ true
-    → (number == plugin) ≡ true → lies_in place p took ≡ true → lies_in place (plugin_of (with_plugin r number p) plugin) took ≡ true
-on_lies r number plugin p place took installed at l =
-    ap (λ (n : ℕ). lies_in place (plugin_of (with_plugin r number p) n) took) (sym (number_is number plugin at))
-    ∙ ap (λ (q : Plugin). lies_in place q took) (same_place r number p (installed_within r number installed)) ∙ l
-
 order_lies : (run : Run) (origin : Origin) (order : Order) (past : List Item) (plugin h : ℕ) → 1 ≤ plugin
     → allowed (plugins run past) order ≡ true → fits_in (plugins run past) (place_of run plugin h past) plugin h ≡ true
-    → lies_in (place_of run plugin h past) (plugin_of (plugins run past) plugin) (taker plugin past) ≡ true
-    → lies_in (place_of run plugin h (Ordered origin order ∷ past)) (plugin_of (plugins run (Ordered origin order ∷ past)) plugin)
-    (taker plugin (Ordered origin order ∷ past)) ≡ true
+    → LiesIn run plugin h past → LiesIn run plugin h (Ordered origin order ∷ past)
 unfolding registry place_of taker
 order_lies run origin (Install spec) past plugin h one is f l =
     let r = plugins run past in
     let took = taker plugin past in
     elim (cases_Bool (length r.plugins + 1 == plugin)) [
-      | inl at ↦ rw at (ap (λ (q : Plugin). lies_in Waiting q took) (append_last r.plugins (fresh r spec) (plugin - 1)
+      | inl at ↦ rw at (ap (lies_in Waiting took) (append_last r.plugins (fresh r spec) (plugin - 1)
           (omega (arith, number_is (length r.plugins + 1) plugin at))))
       | inr off ↦
           let apart : (plugin - 1) ≢ length r.plugins = λ e. grind (arith, nat_tests, off, e, one) in
-          rw off (ap (λ (q : Plugin). lies_in (place_of run plugin h past) q took) (append_other r.plugins (fresh r spec) (plugin - 1) apart) ∙ l)
+          rw off (ap (lies_in (place_of run plugin h past) took) (append_other r.plugins (fresh r spec) (plugin - 1) apart) ∙ l)
     ]
 order_lies run origin (Register number spec) past plugin h one is f l =
     let r = plugins run past in
     let a = register_admitted r number spec is in
     let now = with_set (plugin_of r number) spec in
     elim (cases_Bool (number == plugin)) [
-      | inl at ↦ rw at (on_lies r number plugin now Waiting (taker plugin past) a.0 at refl)
-      | inr off ↦ rw off (off_lies r number plugin now (place_of run plugin h past) (taker plugin past) a.0 one off l)
+      | inl at ↦ rw at (on_holds (lies_in Waiting (taker plugin past)) r number plugin now a.0 at refl)
+      | inr off ↦ rw off (off_holds (lies_in (place_of run plugin h past) (taker plugin past)) r number plugin now a.0 one off l)
     ]
 order_lies run origin (Reset number) past plugin h one is f l =
     let r = plugins run past in
@@ -200,9 +188,9 @@ order_lies run origin (Reset number) past plugin h one is f l =
     elim (cases_Bool (number == plugin)) [
       | inl at ↦
           let g : fits_in r place number h ≡ true = subst (λ (k : ℕ). fits_in r place k h ≡ true) (sym (number_is number plugin at)) f in
-          rw at (on_lies r number plugin now place None a.0 at
+          rw at (on_holds (lies_in place None) r number plugin now a.0 at
           (reset_inside place p.state (owed_by r number h) (has_left r h) number a.1 g))
-      | inr off ↦ rw off (off_lies r number plugin now place (taker plugin past) a.0 one off l)
+      | inr off ↦ rw off (off_holds (lies_in place (taker plugin past)) r number plugin now a.0 one off l)
     ]
 order_lies run origin (Uninstall number) past plugin h one is f l =
     let r = plugins run past in
@@ -213,41 +201,36 @@ order_lies run origin (Uninstall number) past plugin h one is f l =
     elim (cases_Bool (number == plugin)) [
       | inl at ↦
           let g : fits_in r place number h ≡ true = subst (λ (k : ℕ). fits_in r place k h ≡ true) (sym (number_is number plugin at)) f in
-          rw at (on_lies r number plugin now place None a.0 at
+          rw at (on_holds (lies_in place None) r number plugin now a.0 at
           (uninstall_inside place p.state (owed_by r number h) (has_left r h) number a.1 g))
-      | inr off ↦ rw off (off_lies r number plugin now place (taker plugin past) a.0 one off l)
+      | inr off ↦ rw off (off_holds (lies_in place (taker plugin past)) r number plugin now a.0 one off l)
     ]
 
 back_lies : (r : Plugins) (k q : ℕ) (place : Place) (plugin : ℕ) (took : Option ℕ) → 1 ≤ plugin → owes r k q ≡ true
-    → lies_in place (plugin_of r plugin) took ≡ true → lies_in place (plugin_of (after_back k q r) plugin) took ≡ true
+    → lies_in place took (plugin_of r plugin) ≡ true → lies_in place took (plugin_of (after_back k q r) plugin) ≡ true
 back_lies r k q place plugin took one owed l =
     let p = plugin_of r q in
-    let now = record p { owing = slice_set p.owing k false } in
-    let installed : is_installed r q ≡ true = first_true (is_installed r q) _ owed in
-    elim (cases_Bool (q == plugin)) [
-      | inl at ↦ on_lies r q plugin now place took installed at
-          (subst (λ (n : ℕ). lies_in place (plugin_of r n) took ≡ true) (sym (number_is q plugin at)) l)
-      | inr off ↦ off_lies r q plugin now place took installed one off l
-    ]
+    either_holds (lies_in place took) r q plugin (record p { owing = slice_set p.owing k false })
+    (first_true (is_installed r q) _ owed) one l (λ same. same)
 
 tell_lies : (r : Plugins) (q : ℕ) (place : Place) (plugin : ℕ) (took : Option ℕ) → 1 ≤ plugin → is_complete r q ≡ true
-    → lies_in place (plugin_of r plugin) took ≡ true
-    → lies_in (if q == plugin then Nowhere else place) (plugin_of (after_done q r) plugin) took ≡ true
+    → lies_in place took (plugin_of r plugin) ≡ true
+    → lies_in (if q == plugin then Nowhere else place) took (plugin_of (after_done q r) plugin) ≡ true
 tell_lies r q place plugin took one is l =
     let p = plugin_of r q in
     let now = record p { state = done_state p.state } in
     let c = complete r q 0 is in
     elim (cases_Bool (q == plugin)) [
-      | inl at ↦ rw at (on_lies r q plugin now Nowhere took c.0 at (done_lies Nowhere p.state (is_some took) c.1))
-      | inr off ↦ rw off (off_lies r q plugin now place took c.0 one off l)
+      | inl at ↦ rw at (on_holds (lies_in Nowhere took) r q plugin now c.0 at (done_lies Nowhere p.state (is_some took) c.1))
+      | inr off ↦ rw off (off_holds (lies_in place took) r q plugin now c.0 one off l)
     ]
 
 abbrev took_by : Bool → ℕ → Option ℕ → Option ℕ
 took_by here party before = if here then Some party else before
 
 take_lies : (r : Plugins) (party q : ℕ) (place : Place) (plugin h : ℕ) (took : Option ℕ) → is_complete r q ≡ true
-    → fits_in r place plugin h ≡ true → lies_in place (plugin_of r plugin) took ≡ true
-    → lies_in (if q == plugin then taken place else place) (plugin_of r plugin) (took_by (q == plugin) party took) ≡ true
+    → fits_in r place plugin h ≡ true → lies_in place took (plugin_of r plugin) ≡ true
+    → lies_in (if q == plugin then taken place else place) (took_by (q == plugin) party took) (plugin_of r plugin) ≡ true
 take_lies r party q place plugin h took is f l =
     elim (cases_Bool (q == plugin)) [
       | inr off ↦ rw off l
@@ -261,8 +244,7 @@ take_lies r party q place plugin h took is f l =
 
 item_lies : (run : Run) (plugin h : ℕ) (x : Item) (past : List Item) → 1 ≤ plugin → Rule run x past → StateRule run x past
     → fits_in (plugins run past) (place_of run plugin h past) plugin h ≡ true
-    → lies_in (place_of run plugin h past) (plugin_of (plugins run past) plugin) (taker plugin past) ≡ true
-    → lies_in (place_of run plugin h (x ∷ past)) (plugin_of (plugins run (x ∷ past)) plugin) (taker plugin (x ∷ past)) ≡ true
+    → LiesIn run plugin h past → LiesIn run plugin h (x ∷ past)
 unfolding registry place_of taker
 item_lies run plugin h (Step hart) past one rule state f l = l
 item_lies run plugin h (Ordered origin order) past one rule state f l = order_lies run origin order past plugin h one rule.allowed f l
@@ -270,27 +252,29 @@ item_lies run plugin h (GaveBack hart number) past one rule state f l =
     let r = plugins run past in
     let moves = (hart == h) && (number == plugin) in
     let place = place_of run plugin h past in
-    back_lies r hart number (if moves then given_back place else place) plugin (taker plugin past) one (first_true (owes r hart number) _ rule)
+    back_lies r hart number (if moves then given_back place else place) plugin (taker plugin past) one
+    (first_true (owes r hart number) _ rule)
     (moved_lies moves given_back place (plugin_of r plugin) (taker plugin past) given_keeps l)
 item_lies run plugin h (Left hart) past one rule state f l =
     let r = plugins run past in
     let place = place_of run plugin h past in
     let took = taker plugin past in
-    ap (λ (p : Plugin). lies_in (if hart == h then left place else place) p took) (left_at hart r.plugins (plugin - 1))
+    ap (lies_in (if hart == h then left place else place) took) (left_at hart r.plugins (plugin - 1))
     ∙ moved_lies (hart == h) left place (plugin_of r plugin) took left_keeps l
 item_lies run plugin h (Told party number) past one rule state f l =
     tell_lies (plugins run past) number (place_of run plugin h past) plugin (taker plugin past) one (first_true _ _ rule) l
 item_lies run plugin h (Got hart number) past one rule state f l =
-    moved_lies ((hart == h) && (number == plugin)) got (place_of run plugin h past) (plugin_of (plugins run past) plugin) (taker plugin past) got_keeps l
+    let moves = (hart == h) && (number == plugin) in
+    moved_lies moves got (place_of run plugin h past) (plugin_of (plugins run past) plugin) (taker plugin past) got_keeps l
 item_lies run plugin h (Took party number) past one rule state f l =
     take_lies (plugins run past) party number (place_of run plugin h past) plugin h (taker plugin past) state.0 f l
 
-opening_lies : (run : Run) (plugin h : ℕ) → lies_in (place_of run plugin h []) (plugin_of (plugins run []) plugin) (taker plugin []) ≡ true
+opening_lies : (run : Run) (plugin h : ℕ) → LiesIn run plugin h []
 unfolding registry place_of taker
 opening_lies run plugin h = refl
 
 sets_lie : (run : Run) (plugin h : ℕ) (past : List Item) → 1 ≤ plugin → h < run.harts → Legal run past → IsStateLog run past
-    → lies_in (place_of run plugin h past) (plugin_of (plugins run past) plugin) (taker plugin past) ≡ true
+    → LiesIn run plugin h past
 unfolding Legal IsStateLog
 sets_lie run plugin h [] one low legal state = opening_lies run plugin h
 sets_lie run plugin h (x ∷ past) one low legal state =
@@ -314,7 +298,8 @@ closing_out run plugin h past low legal state is took =
     let r = plugins run past in
     let place = place_of run plugin h past in
     let c = complete r plugin h is in
-    handed_out place (ap (λ (b : Bool). lies place true b) (sym took) ∙ ap (λ (b : Bool). lies place b (is_some (taker plugin past))) (sym c.1)
+    handed_out place (ap (λ (b : Bool). lies place true b) (sym took)
+    ∙ ap (λ (b : Bool). lies place b (is_some (taker plugin past))) (sym c.1)
     ∙ sets_lie run plugin h past (installed_from r plugin c.0) low legal state)
 
 -- before that, a set waits or is parked exactly where the plug-in withdraws it
@@ -340,15 +325,9 @@ closing_inside run plugin h past low legal state is none =
     let c = complete r plugin h is in
     let one : 1 ≤ plugin = installed_from r plugin c.0 in
     let in_it : not (is_out place) ≡ true =
-    ap (λ (took : Option ℕ). lies place true (is_some took)) (sym none) ∙ ap (λ (b : Bool). lies place b (is_some (taker plugin past))) (sym c.1)
+    ap (λ (took : Option ℕ). lies place true (is_some took)) (sym none)
+    ∙ ap (λ (b : Bool). lies place b (is_some (taker plugin past))) (sym c.1)
     ∙ sets_lie run plugin h past one low legal state in
     let fit : fits place p.state false (has_left r h) ≡ true =
     ap (λ (o : Bool). fits place p.state o (has_left r h)) (sym c.2) ∙ places_fit run plugin h past one low legal state in
     inside place p.state (has_left r h) c.1 in_it fit ∙ sym (withdrawn_somewhere run plugin h past legal is)
-
-pub closing_apart : (place : Place) → is_waiting place ≡ true → is_parked place ≡ false
-closing_apart Nowhere is = refl
-closing_apart Waiting is = refl
-closing_apart WithHart is = refl
-closing_apart Parked is = absurd (false≢true is)
-closing_apart Out is = refl
