@@ -79,7 +79,7 @@ off_placed test run origin order p j past one is off =
     (ap test (off_place run origin order p j past off))
 
 -- the last of a plug-in's sets, with its filters
-abbrev last_spec : List SetSpec → SetSpec
+abbrev pub last_spec : List SetSpec → SetSpec
 last_spec sets = slice_index_or sets (length sets - 1) no_set
 
 off_arrival : (run : Run) (origin : Origin) (order : Order) (p j : ℕ) (past : List Item) → 1 ≤ p
