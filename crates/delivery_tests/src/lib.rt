@@ -6,6 +6,8 @@ mod attaching;
 #[cfg(test)]
 mod guests;
 #[cfg(test)]
+mod list_tests;
+#[cfg(test)]
 mod readings;
 #[cfg(test)]
 mod runs;

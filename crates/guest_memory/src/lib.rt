@@ -10,5 +10,3 @@ mod memory;
 mod opening;
 mod regions;
 mod reservations;
-#[cfg(test)]
-mod tests;

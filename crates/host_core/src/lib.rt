@@ -4,5 +4,3 @@
 pub use installs::first_refused;
 
 mod installs;
-#[cfg(test)]
-mod tests;

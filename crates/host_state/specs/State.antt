@@ -1,6 +1,7 @@
 -- The state that the harts of a run share, as plain data, and what it keeps.
 use Rattle.std.specs.Prelude.{◌≡◌, ◌+◌, ◌*◌, ◌≤◌, ◌⊎◌, ℕ, Bool, true, List, length, map, Option, None, option_map}
 use Rattle.flat_model.specs.declared.journals.Item.{Item}
+use Rattle.flat_model.specs.declared.plugins.SetSpec.{SetSpec}
 use Rattle.flat_model.specs.declared.limits.TheConstants.{HARTS_MOST, TOTAL_MOST, PLUGINS_MOST}
 use Rattle.flat_model.specs.Plan.{Planned}
 use Rattle.flat_model.specs.World.{Machine, HartState}
@@ -13,9 +14,10 @@ use Rattle.run_rules.specs.Guest.{Run}
 use Rattle.run_rules.specs.Due.{wanted}
 use Rattle.run_order.specs.Sets.{Notice}
 use Rattle.run_order.specs.InOrder.{Task, Stored, InOrder, task_run}
+use Rattle.kept_order.specs.Arriving.{arrivals}
 
--- the run; memory and services; plug-ins and journal with their room; the log; the sets that wait and those that are parked, by
--- plug-in and hart; the harts that have left; the notices of the closers that are there; the boxes and closers that no set has yet;
+-- the run; memory and services; plug-ins and journal with their room; the log; the sets that wait, their filters, and the sets that
+-- are parked, by plug-in and hart; the harts that have left; the notices of the closers that are there; the boxes and closers that no set has yet;
 -- which harts found no memory; and whether one did, so that nothing is recorded any more
 pub record StateValue : Type 0 where
   pub task : Task
@@ -25,6 +27,7 @@ pub record StateValue : Type 0 where
   pub journal : JournalState
   pub past : List Item
   pub waiting : List (List (Option Attachment))
+  pub arriving : List (List (Option SetSpec))
   pub parked : List (List (Option Attachment))
   pub harts : List (Option HartState)
   pub closers : List (Option (List Notice))
@@ -56,6 +59,7 @@ pub record IsWithinLimits (m : Machine) : Type 0 where
 -- what every state keeps: it is in order; its parts are those of its run; boxes and closers are left for the sets to come
 pub record IsSound (s : StateValue) : Type 0 where
   pub order : InOrder s.task (stored_of s)
+  pub arriving : s.arriving ≡ arrivals (task_run s.task) s.past
   pub limits : IsWithinLimits s.task.machine
   pub memory : IsMemoryOf s.task.machine.image s.memory
   pub places : harts_of s.memory ≡ s.task.machine.harts

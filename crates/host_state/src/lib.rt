@@ -4,6 +4,9 @@
 pub use states::HostState;
 pub use tasks::Task;
 
+mod arrivals;
+mod committing;
+mod leaving;
 mod reading;
 mod states;
 mod tables;

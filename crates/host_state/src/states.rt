@@ -1,5 +1,6 @@
 //! The state.
 
+use crate::arrivals::Arrival;
 use crate::tasks::Task;
 use baton_gate::Kept;
 use flat_model::{Item, Trace};
@@ -20,7 +21,7 @@ pub struct HostState<W: Watcher, C: Closer<Held<W>>> {
     pub(crate) journal: Journal,
     pub(crate) past: Trace<Item>,
     // By plug-in and hart.
-    pub(crate) waiting: Vec<Vec<Option<AttachedSet<W>>>>,
+    pub(crate) waiting: Vec<Vec<Option<Arrival<W>>>>,
     pub(crate) parked: Vec<Vec<Option<AttachedSet<W>>>>,
     // The harts that have left.
     pub(crate) kept: Vec<Option<Hart>>,
@@ -45,7 +46,8 @@ impl<W: Watcher, C: Closer<Held<W>>> Model for HostState<W, C> {
       registry = s.registry;
       journal = s.journal;
       past = s.past.items;
-      waiting = map (λ row. row.items) s.waiting.items;
+      waiting = map (λ row. map (option_map (λ a. a.set)) row.items) s.waiting.items;
+      arriving = map (λ row. map (option_map (λ a. a.spec)) row.items) s.waiting.items;
       parked = map (λ row. row.items) s.parked.items;
       harts = s.kept.items;
       closers = map (option_map (λ c. map as_notice (C.notices c))) s.closers.items;
@@ -62,7 +64,8 @@ impl<W: Watcher, C: Closer<Held<W>>> Model for HostState<W, C> {
       registry = s.registry;
       journal = s.journal;
       past = s.past.items;
-      waiting = map (λ row. row.items) s.waiting.items;
+      waiting = map (λ row. map (option_map (λ a. a.set)) row.items) s.waiting.items;
+      arriving = map (λ row. map (option_map (λ a. a.spec)) row.items) s.waiting.items;
       parked = map (λ row. row.items) s.parked.items;
       harts = s.kept.items;
       closers = map (option_map (λ c. map as_notice (C.notices c))) s.closers.items;

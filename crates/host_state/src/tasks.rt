@@ -1,5 +1,7 @@
 //! What is run.
 
+ghost use Rattle.std.specs.Prelude.{◌≡◌};
+
 use flat_model::{Image, Mode, Plan};
 use std::marker::Model;
 use std::sync::Arc;
@@ -25,4 +27,32 @@ impl Model for Task {
       mode = t.mode;
       plan = t.plan;
     } };
+}
+
+impl Task {
+    pub fn image(&self) -> &Image
+        ensures image { result.now ≡ self.now.machine.image }
+    {
+        &self.image
+    }
+
+    /// How many harts there are.
+    pub fn harts(&self) -> u8
+        ensures harts { result ≡ self.now.machine.harts }
+    {
+        self.harts
+    }
+
+    /// The steps that each hart makes at most.
+    pub fn limit(&self) -> u64
+        ensures limit { result ≡ self.now.machine.limit }
+    {
+        self.limit
+    }
+
+    pub fn mode(&self) -> Mode
+        ensures mode { result ≡ self.now.mode }
+    {
+        self.mode
+    }
 }

@@ -13,5 +13,3 @@ mod kept_lists;
 mod lists;
 mod slots;
 mod sorts;
-#[cfg(test)]
-mod tests;

@@ -1,5 +1,5 @@
 -- What becomes of the stored state where a hart takes a set that waits for it.
-use Rattle.std.specs.Prelude.{◌≡◌, ◌≤◌, ◌<◌, ◌-◌, ℕ, true, false, List, ◌∷◌, None, length}
+use Rattle.std.specs.Prelude.{◌≡◌, ◌≤◌, ◌-◌, ℕ, true, false, List, ◌∷◌, None, length}
 use Rattle.flat_model.specs.declared.journals.Item.{Item}
 use Rattle.flat_model.specs.declared.journals.Item.TheVariants.{Got}
 use Rattle.watcher_api.specs.Attachment.{with_set}
@@ -23,13 +23,11 @@ pub record HasGot (h plugin : ℕ) (old new : Stored) : Type 0 where
 
 abbrev pub TakesKeepOrder : Type 0
 TakesKeepOrder = (t : Task) (h plugin : ℕ) (old new : Stored) → InOrder t old
-    → 1 ≤ plugin → plugin ≤ length old.plugins.plugins → h < t.machine.harts → may_get (task_run t) h plugin old.past ≡ true
-    → HasGot h plugin old new → InOrder t new
+    → 1 ≤ plugin → may_get (task_run t) h plugin old.past ≡ true → HasGot h plugin old new → InOrder t new
 
 -- the hart has then one set more: the one that waited
 abbrev pub TakesAddSets : Type 0
-TakesAddSets = (run : Run) (h plugin : ℕ) (past : List Item) → Legal run past → IsStateLog run past
-    → 1 ≤ plugin → plugin ≤ length (plugins run past).plugins → h < run.harts → may_get run h plugin past ≡ true
+TakesAddSets = (run : Run) (h plugin : ℕ) (past : List Item) → 1 ≤ plugin → may_get run h plugin past ≡ true
     → sets_for is_with_hart run h (Got h plugin ∷ past) ≡ with_set (attachment_of run plugin h past) (sets_for is_with_hart run h past)
 
 -- nothing waits any more for a hart that owes no Back, once there is no set that it may take

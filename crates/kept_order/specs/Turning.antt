@@ -1,5 +1,5 @@
 -- What steps of a hart make of the stored state.
-use Rattle.std.specs.Prelude.{◌≡◌, ℕ, true, ◌∷◌}
+use Rattle.std.specs.Prelude.{◌≡◌, ℕ, true}
 use Rattle.flat_model.specs.Log.{log, steps}
 use Rattle.flat_model.specs.Worlds.{world}
 use Rattle.run_rules.specs.Legal.{Legal}

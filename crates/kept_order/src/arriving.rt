@@ -3,19 +3,17 @@
 ghost use Rattle.kept_order.specs.Arriving.{ArrivalsStay, InstallsArrive, TakesArrive};
 
 /// Steps, and a hart that leaves, change nothing of what waits.
-#[tactic(auto, using(crate::proofs::Arriving::arrivals_stay))]
 pub fn arrivals_stay()
     ensures law { ArrivalsStay }
 {}
 
 /// An install adds its set for each hart.
-#[tactic(auto, using(crate::proofs::Arriving::installs_arrive))]
+#[tactic(auto, using(crate::proofs::Arrivals::installs_arrive))]
 pub fn installs_arrive()
     ensures law { InstallsArrive }
 {}
 
 /// A hart that takes a set takes it from where it waits.
-#[tactic(auto, using(crate::proofs::Arriving::takes_arrive))]
 pub fn takes_arrive()
     ensures law { TakesArrive }
 {}

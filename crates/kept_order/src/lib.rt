@@ -3,12 +3,9 @@
 #![tactic(auto)]
 
 pub mod arriving;
-pub mod closing;
 pub mod fitting;
 pub mod hearing;
 pub mod leaving;
 pub mod opening;
-pub mod ordering;
-pub mod returning;
 pub mod taking;
 pub mod turning;

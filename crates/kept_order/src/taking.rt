@@ -3,19 +3,18 @@
 ghost use Rattle.kept_order.specs.Taking.{TakesKeepOrder, TakesAddSets, TakenIsAll};
 
 /// A hart that takes a set keeps the state in order.
-#[tactic(auto, using(crate::proofs::Taking::takes_keep_order))]
 pub fn takes_keep_order()
     ensures law { TakesKeepOrder }
 {}
 
 /// It has then one set more.
-#[tactic(auto, using(crate::proofs::Taking::takes_add_sets))]
+#[tactic(auto, using(crate::proofs::Takes::takes_add_sets))]
 pub fn takes_add_sets()
     ensures law { TakesAddSets }
 {}
 
 /// Once a hart that owes no Back may take no set, none waits for it.
-#[tactic(auto, using(crate::proofs::Taking::taken_is_all))]
+#[tactic(auto, using(crate::proofs::Takes::taken_is_all))]
 pub fn taken_is_all()
     ensures law { TakenIsAll }
 {}

@@ -9,5 +9,3 @@ pub use pieces::{put_bytes, put_text};
 mod decimals;
 mod hexadecimal;
 mod pieces;
-#[cfg(test)]
-mod tests;

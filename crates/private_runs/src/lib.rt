@@ -4,5 +4,3 @@
 pub use runs::private_run;
 
 mod runs;
-#[cfg(test)]
-mod tests;

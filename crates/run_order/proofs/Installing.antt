@@ -28,12 +28,13 @@ use Rattle.run_order.proofs.Shelves.{map_same}
 use Rattle.run_order.proofs.Staying.{made_by}
 
 -- a range that is one longer has one number more at its end
-range_more : (a n : ℕ) → range_with_len a (suc n) ≡ range_with_len a n ++ (a + n) ∷ []
+pub range_more : (a n : ℕ) → range_with_len a (suc n) ≡ range_with_len a n ++ (a + n) ∷ []
 range_more a zero = ap (λ (k : ℕ). k ∷ []) (omega arith)
 range_more a (suc n) =
     ap (λ (ks : List ℕ). a ∷ ks) (range_more (a + 1) n ∙ ap (λ (k : ℕ). range_with_len (a + 1) n ++ k ∷ []) (omega arith))
 
-map_one : {A : Type 0} (x : A) (f : ℕ → A) (a n : ℕ) → ((k : ℕ) → a ≤ k → k < a + n → f k ≡ x) → map f (range_with_len a n) ≡ replicate n x
+pub map_one : {A : Type 0} (x : A) (f : ℕ → A) (a n : ℕ) → ((k : ℕ) → a ≤ k → k < a + n → f k ≡ x)
+    → map f (range_with_len a n) ≡ replicate n x
 map_one x f a zero is = refl
 map_one x f a (suc n) is =
     ap (λ y. y ∷ map f (range_with_len (a + 1) n)) (is a (omega arith) (omega arith))
@@ -49,7 +50,7 @@ sets_unless true sets is = absurd (false≢true (sym is))
 sets_unless false sets is = refl
 
 -- the plug-in that an install adds
-new_sets : (r : Plugins) (spec : SetSpec) → sets_of (after_order (Install spec) r) (length r.plugins + 1) ≡ spec ∷ []
+pub new_sets : (r : Plugins) (spec : SetSpec) → sets_of (after_order (Install spec) r) (length r.plugins + 1) ≡ spec ∷ []
 new_sets r spec =
     let q = after_order (Install spec) r in
     let n = length r.plugins in

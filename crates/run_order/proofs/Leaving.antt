@@ -58,7 +58,8 @@ own_place run h p past =
     let own : (h == h) ≡ true = grind (arith, nat_tests) in
     rw own refl
 
-same_waiting : (run : Run) (h p j : ℕ) (past : List Item) → is_waiting (place_of run p j (Left h ∷ past)) ≡ is_waiting (place_of run p j past)
+pub same_waiting : (run : Run) (h p j : ℕ) (past : List Item)
+    → is_waiting (place_of run p j (Left h ∷ past)) ≡ is_waiting (place_of run p j past)
 unfolding place_of
 same_waiting run h p j past =
     elim (cases_Bool (h == j)) [

@@ -35,7 +35,7 @@ map_at f a zero i d within = absurd (omega (arith, within))
 map_at f a (suc n) zero d within = ap f (omega arith)
 map_at f a (suc n) (suc i) d within = map_at f (a + 1) n i d (omega (arith, within)) ∙ ap f (omega arith)
 
-waiting_is : (place : Place) → is_waiting place ≡ true → place ≡ Waiting
+pub waiting_is : (place : Place) → is_waiting place ≡ true → place ≡ Waiting
 waiting_is Nowhere is = absurd (false≢true is)
 waiting_is Waiting is = refl
 waiting_is WithHart is = absurd (false≢true is)
@@ -61,12 +61,12 @@ placed_by test run past now p j same there =
     ∙ ap (λ (a : Attachment). if test (place_of run p j past) then Some a else None) same
 
 -- another place
-off_place : (run : Run) (h plugin p j : ℕ) (past : List Item) → ((h == j) && (plugin == p)) ≡ false
+pub off_place : (run : Run) (h plugin p j : ℕ) (past : List Item) → ((h == j) && (plugin == p)) ≡ false
     → place_of run p j (Got h plugin ∷ past) ≡ place_of run p j past
 unfolding place_of
 off_place run h plugin p j past off = rw off refl
 
-own_place : (run : Run) (h plugin : ℕ) (past : List Item) → place_of run plugin h (Got h plugin ∷ past) ≡ got (place_of run plugin h past)
+pub own_place : (run : Run) (h plugin : ℕ) (past : List Item) → place_of run plugin h (Got h plugin ∷ past) ≡ got (place_of run plugin h past)
 unfolding place_of
 own_place run h plugin past =
     let own : ((h == h) && (plugin == plugin)) ≡ true = grind (arith, nat_tests) in

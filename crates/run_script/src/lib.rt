@@ -13,6 +13,4 @@ mod names;
 mod numbers;
 mod refusals;
 mod scripts;
-#[cfg(test)]
-mod tests;
 mod words;

@@ -17,6 +17,4 @@ mod division;
 mod loads;
 mod multiplication;
 mod operations;
-#[cfg(test)]
-mod tests;
 mod words;

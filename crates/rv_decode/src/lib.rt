@@ -14,5 +14,3 @@ mod encoding;
 mod fields;
 mod laws;
 mod rows;
-#[cfg(test)]
-mod tests;

@@ -143,4 +143,11 @@ impl<W: Watcher> Attached<W> {
         let place = self.position(plugin)?;
         Some(self.sets.remove(place))
     }
+
+    /// The sets, in their order.
+    pub fn into_sets(self) -> Vec<AttachedSet<W>>
+        ensures sets { result.items ≡ self }
+    {
+        self.sets
+    }
 }

@@ -23,6 +23,4 @@ mod holders;
 mod racks;
 mod recorders;
 mod refusers;
-#[cfg(test)]
-mod tests;
 mod watchers;
