@@ -1,12 +1,12 @@
 -- The stored state after a hart has given a plug-in back.
-use Rattle.std.proofs.Common.{◌≡◌, ◌==◌, ◌&&◌, ◌||◌, ◌+◌, ◌-◌, ◌<◌, ◌≤◌, ◌∷◌, [], ◌++◌, ◌∙◌, ℕ, zero, suc, Bool, true, false, not, List}
+use Rattle.std.proofs.Common.{◌≡◌, ◌==◌, ◌&&◌, ◌+◌, ◌-◌, ◌<◌, ◌≤◌, ◌∷◌, [], ◌++◌, ◌∙◌, ℕ, zero, suc, Bool, true, false, not, List}
 use Rattle.std.proofs.Common.{Option, Some, None, refl, sym, ap, subst, arith, inl, inr, length, map}
-use Rattle.std.specs.Prelude.{if◌then◌else◌, filter, slice_index_or, slice_set, replicate, is_some}
+use Rattle.std.specs.Prelude.{if◌then◌else◌, slice_index_or, slice_set, is_some}
 use Rattle.std.specs.Option.{option_or}
 use Rattle.std.specs.List.{range_with_len, filter_map}
-use Rattle.std.proofs.lemmas.Bool.{cases_Bool, false≢true, and_left, and_right}
+use Rattle.std.proofs.lemmas.Bool.{cases_Bool, false≢true, and_right}
 use Rattle.std.proofs.lemmas.Bool.Decides.{nat_tests}
-use Rattle.std.proofs.lemmas.List.{length-append, length-set, length-map, length-replicate}
+use Rattle.std.proofs.lemmas.List.{length-set, length-map, length-replicate}
 use Rattle.flat_model.specs.declared.plugins.SetSpec.{SetSpec}
 use Rattle.flat_model.specs.declared.journals.How.TheVariants as how
 use Rattle.flat_model.specs.declared.journals.Item.{Item}
@@ -16,31 +16,32 @@ use Rattle.flat_model.specs.declared.journals.Order.TheVariants.{Install, Regist
 use Rattle.flat_model.specs.declared.journals.PlugState.{PlugState}
 use Rattle.flat_model.specs.declared.journals.PlugState.TheVariants.{Live, Idle, Resetting, Leaving, Gone}
 use Rattle.flat_model.specs.Log.{journaled}
-use Rattle.flat_model.specs.Registry.{Plugins, Plugin, no_plugin, registry, plugin_of, sets_of, is_installed, is_closing, has_left, owes, after_order, after_back}
-use Rattle.flat_model.specs.Registry.{with_plugin, with_set, withdrawn, without_hart, done_state}
+use Rattle.flat_model.specs.Registry.{Plugins, Plugin, no_plugin, registry, plugin_of, sets_of, is_installed, is_closing, has_left, owes}
+use Rattle.flat_model.specs.Registry.{after_order, after_back}
+use Rattle.flat_model.specs.Registry.{with_set, withdrawn, without_hart, done_state}
 use Rattle.flat_model.specs.Worlds.{world}
 use Rattle.watcher_api.specs.Attachment.{Attachment}
 use Rattle.run_rules.specs.Guest.{Run, plugins}
-use Rattle.run_rules.specs.Heard.{progress, no_set, set_at, last_set}
+use Rattle.run_rules.specs.Heard.{progress, set_at, last_set}
 use Rattle.run_rules.specs.Legal.{Legal, numbers, may_give_back}
-use Rattle.run_rules.specs.Places.{Place, Nowhere, Waiting, WithHart, Parked, Out, place_of, given_back, fits, fits_in, owed_by}
+use Rattle.run_rules.specs.Places.{Place, Nowhere, Waiting, WithHart, Parked, Out, place_of, given_back, fits, owed_by}
 use Rattle.run_rules.specs.Places.{IsStateLog, is_waiting, is_with_hart, is_parked, taker}
 use Rattle.run_rules.proofs.Fitting.{installed_from, installed_within, left_at, number_is, places_fit}
 use Rattle.run_rules.proofs.Growing.{fresh}
 use Rattle.run_rules.proofs.Keeping.{placed_sets}
-use Rattle.run_rules.proofs.Turns.{first_true, rest_true, same}
+use Rattle.run_rules.proofs.Turns.{first_true, rest_true}
 use Rattle.run_order.specs.Laws.{with_place}
-use Rattle.run_order.specs.Sets.{attachment_of, placed_at, shelf, sets_for, harts_of, notices_of, closers_of}
-use Rattle.run_order.specs.InOrder.{Task, task_run, hart_kept}
+use Rattle.run_order.specs.Sets.{attachment_of, placed_at, shelf, harts_of, notices_of, closers_of}
+use Rattle.run_order.specs.InOrder.{task_run, hart_kept}
 use Rattle.run_order.proofs.Installing.{last_made}
 use Rattle.run_order.proofs.Shelves.{map_same}
 use Rattle.run_order.proofs.Taking.{placed_by}
 use Rattle.kept_order.specs.Arriving.{arrival_at, arrivals}
-use Rattle.kept_order.specs.Hearing.{spec_at, specs_for}
+use Rattle.kept_order.specs.Hearing.{spec_at}
 use Rattle.kept_order.specs.Returning.{with_some, set_back, BacksKeepOrder, BacksTakeSets}
 use Rattle.kept_order.proofs.Leaves.{knows_harts}
-use Rattle.kept_order.proofs.Openings.{closer_when, closer}
-use Rattle.kept_order.proofs.Orders.{last_spec}
+use Rattle.kept_order.proofs.Arrivals.{last_spec, same_arrival}
+use Rattle.kept_order.proofs.Openings.{closer}
 use Rattle.kept_order.proofs.Tables.{table, table_same, table_place, gives_others}
 
 -- A hart that owes a Back is one of the run.
@@ -141,7 +142,8 @@ unfolding registry progress
 same_attachment run h number p j past = ap (λ (sets : List SetSpec). last_made run p j sets past) (same_sets (plugins run past) h number p)
 
 same_set : (run : Run) (h number p : ℕ) (past : List Item)
-    → set_at run p (last_set (plugins run (GaveBack h number ∷ past)) p) (GaveBack h number ∷ past) ≡ set_at run p (last_set (plugins run past) p) past
+    → set_at run p (last_set (plugins run (GaveBack h number ∷ past)) p) (GaveBack h number ∷ past)
+    ≡ set_at run p (last_set (plugins run past) p) past
 unfolding registry
 same_set run h number p past = ap last_spec (same_sets (plugins run past) h number p)
 
@@ -150,7 +152,8 @@ off_place : (run : Run) (h number p j : ℕ) (past : List Item) → ((h == j) &&
 unfolding place_of
 off_place run h number p j past off = rw off refl
 
-own_place : (run : Run) (h plugin : ℕ) (past : List Item) → place_of run plugin h (GaveBack h plugin ∷ past) ≡ given_back (place_of run plugin h past)
+own_place : (run : Run) (h plugin : ℕ) (past : List Item)
+    → place_of run plugin h (GaveBack h plugin ∷ past) ≡ given_back (place_of run plugin h past)
 unfolding place_of
 own_place run h plugin past =
     let own : ((h == h) && (plugin == plugin)) ≡ true = grind (arith, nat_tests) in
@@ -159,14 +162,15 @@ own_place run h plugin past =
 off_placed : (test : Place → Bool) (run : Run) (h number p j : ℕ) (past : List Item) → ((h == j) && (number == p)) ≡ false
     → placed_at test run (GaveBack h number ∷ past) p j ≡ placed_at test run past p j
 off_placed test run h number p j past off =
-    placed_by test run past (GaveBack h number ∷ past) p j (same_attachment run h number p j past) (ap test (off_place run h number p j past off))
+    placed_by test run past (GaveBack h number ∷ past) p j (same_attachment run h number p j past)
+    (ap test (off_place run h number p j past off))
 
 off_arrival : (run : Run) (h number p j : ℕ) (past : List Item) → ((h == j) && (number == p)) ≡ false
     → arrival_at run (GaveBack h number ∷ past) p j ≡ arrival_at run past p j
+unfolding registry
 off_arrival run h number p j past off =
-    let now = GaveBack h number ∷ past in
-    ap (λ (q : Place). if is_waiting q then Some (set_at run p (last_set (plugins run now) p) now) else None) (off_place run h number p j past off)
-    ∙ ap (λ (s : SetSpec). if is_waiting (place_of run p j past) then Some s else None) (same_set run h number p past)
+    same_arrival run past (GaveBack h number ∷ past) p j (same_sets (plugins run past) h number p)
+    (ap is_waiting (off_place run h number p j past off))
 
 -- a set that is given back neither waits nor is with its hart
 waits_no_more : (place : Place) → is_waiting (given_back place) ≡ false
@@ -213,14 +217,17 @@ record SetsReturn (run : Run) (h plugin : ℕ) (past : List Item) : Type 0 where
   arrivals : arrivals run (GaveBack h plugin ∷ past) ≡ with_place (arrivals run past) (plugin - 1) h None
 
 -- the shelf of the sets that are parked
-parks_one : (run : Run) (h plugin : ℕ) (past : List Item) → Owes run h plugin past → is_parked (given_back (place_of run plugin h past)) ≡ true
-    → shelf is_parked run (GaveBack h plugin ∷ past) ≡ with_place (shelf is_parked run past) (plugin - 1) h (Some (attachment_of run plugin h past))
+parks_one : (run : Run) (h plugin : ℕ) (past : List Item) → Owes run h plugin past
+    → is_parked (given_back (place_of run plugin h past)) ≡ true
+    → shelf is_parked run (GaveBack h plugin ∷ past)
+    ≡ with_place (shelf is_parked run past) (plugin - 1) h (Some (attachment_of run plugin h past))
 unfolding registry
 parks_one run h plugin past o is =
     let r = plugins run past in
     let now = GaveBack h plugin ∷ past in
     ap (λ (k : ℕ). table (placed_at is_parked run now) run.harts k) (same_long r h plugin)
-    ∙ table_place (placed_at is_parked run past) (placed_at is_parked run now) run.harts (length r.plugins) plugin h (Some (attachment_of run plugin h past))
+    ∙ table_place (placed_at is_parked run past) (placed_at is_parked run now) run.harts (length r.plugins) plugin h
+    (Some (attachment_of run plugin h past))
     o.one o.most o.hart (λ p j least high low off. off_placed is_parked run h plugin p j past off)
     (ap (λ (b : Bool). if b then Some (attachment_of run plugin h now) else None) (ap is_parked (own_place run h plugin past) ∙ is)
     ∙ ap (λ (a : Attachment). Some a) (same_attachment run h plugin plugin h past))
@@ -233,14 +240,17 @@ parks_none run h plugin past is =
     let r = plugins run past in
     let now = GaveBack h plugin ∷ past in
     let own : placed_at is_parked run now plugin h ≡ placed_at is_parked run past plugin h =
-    placed_by is_parked run past now plugin h (same_attachment run h plugin plugin h past) (ap is_parked (own_place run h plugin past) ∙ is) in
+    placed_by is_parked run past now plugin h (same_attachment run h plugin plugin h past)
+    (ap is_parked (own_place run h plugin past) ∙ is) in
     ap (λ (k : ℕ). table (placed_at is_parked run now) run.harts k) (same_long r h plugin)
     ∙ table_same (placed_at is_parked run past) (placed_at is_parked run now) run.harts (length r.plugins)
     (λ p j least high low. elim (cases_Bool ((h == j) && (plugin == p))) [
       | inr off ↦ off_placed is_parked run h plugin p j past off
       | inl at ↦
-          subst (λ (k : ℕ). placed_at is_parked run now k j ≡ placed_at is_parked run past k j) (number_is plugin p (rest_true (h == j) _ at))
-          (subst (λ (k : ℕ). placed_at is_parked run now plugin k ≡ placed_at is_parked run past plugin k) (number_is h j (first_true _ _ at)) own)
+          subst (λ (k : ℕ). placed_at is_parked run now k j ≡ placed_at is_parked run past k j)
+          (number_is plugin p (rest_true (h == j) _ at))
+          (subst (λ (k : ℕ). placed_at is_parked run now plugin k ≡ placed_at is_parked run past plugin k)
+          (number_is h j (first_true _ _ at)) own)
     ])
 
 sets_return : (run : Run) (h plugin : ℕ) (past : List Item) → Owes run h plugin past → Legal run past → IsStateLog run past
@@ -280,7 +290,8 @@ state_keeps (p ∷ ps) zero x (suc i) is = refl
 state_keeps (p ∷ ps) (suc k) x zero is = refl
 state_keeps (p ∷ ps) (suc k) x (suc i) is = state_keeps ps k x i is
 
-same_closer : (run : Run) (h number : ℕ) (past : List Item) (plugin : ℕ) → closer run (GaveBack h number ∷ past) plugin ≡ closer run past plugin
+same_closer : (run : Run) (h number : ℕ) (past : List Item) (plugin : ℕ)
+    → closer run (GaveBack h number ∷ past) plugin ≡ closer run past plugin
 unfolding registry taker notices_of
 same_closer run h number past plugin =
     let r = plugins run past in
@@ -338,7 +349,7 @@ off_spec run h plugin k past off =
 
 pub backs_take_sets : BacksTakeSets
 unfolding registry
-backs_take_sets run h plugin past legal state =
+backs_take_sets run h plugin past =
     let r = plugins run past in
     let now = GaveBack h plugin ∷ past in
     let long : length (plugins run now).plugins ≡ length r.plugins = same_long r h plugin in
@@ -351,6 +362,7 @@ backs_take_sets run h plugin past legal state =
       specs = ap (λ (n : ℕ). filter_map (spec_at run h now) (range_with_len 1 n)) long
           ∙ gives_others (λ k. is_with_hart (place_of run k h past)) (λ k. (k, set_at run k (last_set r k) past))
           (spec_at run h now) (λ s. not (s.0 == plugin)) plugin (numbers r) (λ k. refl)
-          (λ k at. ap (λ (b : Bool). if b then Some (k, set_at run k (last_set (plugins run now) k) now) else None) (own_gone run h plugin k past at))
+          (λ k at. ap (λ (b : Bool). if b then Some (k, set_at run k (last_set (plugins run now) k) now) else None)
+          (own_gone run h plugin k past at))
           (λ k off. off_spec run h plugin k past off);
     }

@@ -15,8 +15,10 @@ use Rattle.flat_model.specs.declared.journals.Origin.{Origin}
 use Rattle.flat_model.specs.declared.journals.PlugState.{PlugState}
 use Rattle.flat_model.specs.declared.journals.PlugState.TheVariants.{Live, Idle, Resetting, Leaving, Gone}
 use Rattle.flat_model.specs.Log.{journaled}
-use Rattle.flat_model.specs.Registry.{Plugins, Plugin, registry, plugin_of, sets_of, is_installed, is_closing, has_left, after_order, next_state}
+use Rattle.flat_model.specs.Registry.{Plugins, Plugin, registry, plugin_of, sets_of, is_installed, is_closing, has_left, after_order}
+use Rattle.flat_model.specs.Registry.{next_state}
 use Rattle.flat_model.specs.Registry.{with_set, withdrawn}
+use Rattle.flat_model.specs.World.{HartState}
 use Rattle.flat_model.specs.Worlds.{world, hart_of}
 use Rattle.watcher_api.specs.Attachment.{Attachment, opening}
 use Rattle.run_rules.specs.Guest.{Run, plugins}
@@ -25,7 +27,8 @@ use Rattle.run_rules.specs.Heard.{progress, no_set, set_at, last_set}
 use Rattle.run_rules.specs.Legal.{Legal}
 use Rattle.run_rules.specs.Places.{Nowhere, Waiting, WithHart, Parked, Out, fits, fits_in, owed_by}
 use Rattle.run_rules.specs.Places.{Place, place_of, registers, IsStateLog, is_waiting, is_parked, taker, withdraws}
-use Rattle.run_rules.proofs.Fitting.{Admits, register_admitted, reset_admitted, uninstall_admitted, installed_from, other_place, same_place, installed_within}
+use Rattle.run_rules.proofs.Fitting.{Admits, register_admitted, reset_admitted, uninstall_admitted, installed_from, other_place, same_place}
+use Rattle.run_rules.proofs.Fitting.{installed_within}
 use Rattle.run_rules.proofs.Fitting.{number_is, places_fit}
 use Rattle.run_rules.proofs.Growing.{later_sets_hear_nothing}
 use Rattle.run_rules.proofs.Keeping.{order_sets}
@@ -38,6 +41,7 @@ use Rattle.run_order.proofs.Staying.{made_by}
 use Rattle.run_order.proofs.Taking.{placed_by}
 use Rattle.kept_order.specs.Arriving.{arrival_at, arrivals}
 use Rattle.kept_order.specs.Ordering.{IsWithdrawal, WithdrawalsKeepOrder, RegistrationsKeepOrder}
+use Rattle.kept_order.proofs.Arrivals.{last_spec, same_arrival}
 use Rattle.kept_order.proofs.Openings.{closer_when, closer}
 use Rattle.kept_order.proofs.Tables.{table, table_same, table_row, last_more}
 
@@ -78,20 +82,13 @@ off_placed test run origin order p j past one is off =
     (off_attachment run origin order p j past (order_sets (plugins run past) order p one is off))
     (ap test (off_place run origin order p j past off))
 
--- the last of a plug-in's sets, with its filters
-abbrev pub last_spec : List SetSpec → SetSpec
-last_spec sets = slice_index_or sets (length sets - 1) no_set
-
 off_arrival : (run : Run) (origin : Origin) (order : Order) (p j : ℕ) (past : List Item) → 1 ≤ p
     → allowed (plugins run past) order ≡ true → registers (plugins run past) order p ≡ false
     → arrival_at run (Ordered origin order ∷ past) p j ≡ arrival_at run past p j
 unfolding registry
 off_arrival run origin order p j past one is off =
-    let now = Ordered origin order ∷ past in
-    ap (λ (q : Place). if is_waiting q then Some (set_at run p (last_set (plugins run now) p) now) else None)
-    (off_place run origin order p j past off)
-    ∙ ap (λ (sets : List SetSpec). if is_waiting (place_of run p j past) then Some (last_spec sets) else None)
-    (order_sets (plugins run past) order p one is off)
+    same_arrival run past (Ordered origin order ∷ past) p j (order_sets (plugins run past) order p one is off)
+    (ap is_waiting (off_place run origin order p j past off))
 
 -- a plug-in's closer is with the state unless its closing was taken
 while_open : (closing out : Bool) (notices : List Notice) → closing ≡ false
@@ -112,7 +109,8 @@ closing_begins : (run : Run) (origin : Origin) (order : Order) (past : List Item
 unfolding registry taker notices_of
 closing_begins run origin order past plugin is was =
     let r = plugins run past in
-    while_in (is_closing (plugin_of (after_order order r) plugin).state) (is_some (if withdraws order plugin then None else taker plugin past))
+    while_in (is_closing (plugin_of (after_order order r) plugin).state)
+    (is_some (if withdraws order plugin then None else taker plugin past))
     (notices_of run plugin past) (ap (λ (b : Bool). is_some (if b then None else taker plugin past)) is)
     ∙ sym (while_open (is_closing (plugin_of r plugin).state) (is_some (taker plugin past)) (notices_of run plugin past) was)
 
@@ -121,8 +119,9 @@ other_closer : (run : Run) (origin : Origin) (order : Order) (past : List Item) 
     → closer run (Ordered origin order ∷ past) plugin ≡ closer run past plugin
 unfolding registry taker notices_of
 other_closer run origin order past plugin off same =
-    ap (λ (b : Bool). if is_closing (plugin_of (after_order order (plugins run past)) plugin).state && is_some (if b then None else taker plugin past)
-    then None else Some (notices_of run plugin past)) off
+    let s = (plugin_of (after_order order (plugins run past)) plugin).state in
+    let notices = notices_of run plugin past in
+    ap (λ (b : Bool). if is_closing s && is_some (if b then None else taker plugin past) then None else Some notices) off
     ∙ ap (closer_when run past plugin) same
 
 stays_open : (run : Run) (origin : Origin) (order : Order) (past : List Item) (plugin : ℕ)
@@ -131,9 +130,11 @@ stays_open : (run : Run) (origin : Origin) (order : Order) (past : List Item) (p
     → closer run (Ordered origin order ∷ past) plugin ≡ closer run past plugin
 unfolding registry taker notices_of
 stays_open run origin order past plugin was is =
-    while_open (is_closing (plugin_of (after_order order (plugins run past)) plugin).state) (is_some (taker plugin (Ordered origin order ∷ past)))
+    while_open (is_closing (plugin_of (after_order order (plugins run past)) plugin).state)
+    (is_some (taker plugin (Ordered origin order ∷ past)))
     (notices_of run plugin past) is
-    ∙ sym (while_open (is_closing (plugin_of (plugins run past) plugin).state) (is_some (taker plugin past)) (notices_of run plugin past) was)
+    ∙ sym (while_open (is_closing (plugin_of (plugins run past) plugin).state) (is_some (taker plugin past))
+    (notices_of run plugin past) was)
 
 -- an order that names a plug-in
 abbrev IsNaming : Order → Type 0
@@ -153,11 +154,13 @@ same_closer run origin (Register number spec) past plugin names one is =
       | inl at ↦
           let e : number ≡ plugin = number_is number plugin at in
           stays_open run origin (Register number spec) past plugin
-          (subst (λ (k : ℕ). is_closing (plugin_of r k).state ≡ false) e (not_closing (Register number spec) (plugin_of r number).state a.1))
+          (subst (λ (k : ℕ). is_closing (plugin_of r k).state ≡ false) e
+          (not_closing (Register number spec) (plugin_of r number).state a.1))
           (subst (λ (k : ℕ). is_closing (plugin_of (after_order (Register number spec) r) k).state ≡ false) e
           (ap (λ (p : Plugin). is_closing p.state) (same_place r number now (installed_within r number a.0))))
       | inr off ↦
-          other_closer run origin (Register number spec) past plugin refl (other_place r number plugin now (installed_from r number a.0) one off)
+          other_closer run origin (Register number spec) past plugin refl
+          (other_place r number plugin now (installed_from r number a.0) one off)
     ]
 same_closer run origin (Reset number) past plugin names one is =
     let r = plugins run past in
@@ -206,11 +209,15 @@ same_closers run origin order past names is =
     ap (λ (n : ℕ). map (closer run now) (range_with_len 1 n)) (same_long r order names)
     ∙ map_same (closer run now) (closer run past) 1 (length r.plugins) (λ p one most. same_closer run origin order past p names one is)
 
+-- the harts that have left, where these have
+abbrev kept_by : Task → List Item → List Bool → ℕ → Option HartState
+kept_by t past gone h = if slice_index_or gone h false then Some (hart_of t.machine t.mode past h) else None
+
 same_harts : (t : Task) (origin : Origin) (order : Order) (past : List Item)
     → map (hart_kept t (Ordered origin order ∷ past)) (harts_of (task_run t)) ≡ map (hart_kept t past) (harts_of (task_run t))
 unfolding registry world
 same_harts t origin order past =
-    ap (λ (gone : List Bool). map (λ h. if slice_index_or gone h false then Some (hart_of t.machine t.mode past h) else None) (harts_of (task_run t)))
+    ap (λ (gone : List Bool). map (kept_by t past gone) (harts_of (task_run t)))
     (same_gone (plugins (task_run t) past) order)
 
 -- Withdrawals.
@@ -262,8 +269,10 @@ withdrawals_keep_order t origin order old new is o legal l =
         plugins = l.plugins ∙ ap (after_order order) o.plugins ∙ ap (plugins run) was;
         waiting = l.waiting ∙ o.waiting ∙ sym (shelf_stays is_waiting run origin order old.past is may) ∙ ap (shelf is_waiting run) was;
         parked = l.parked ∙ o.parked ∙ sym (shelf_stays is_parked run origin order old.past is may) ∙ ap (shelf is_parked run) was;
-        harts = l.harts ∙ o.harts ∙ sym (same_harts t origin order old.past) ∙ ap (λ (xs : List Item). map (hart_kept t xs) (harts_of run)) was;
-        closers = l.closers ∙ o.closers ∙ sym (same_closers run origin order old.past (withdrawal_names order is) may) ∙ ap (closers_of run) was;
+        harts = l.harts ∙ o.harts ∙ sym (same_harts t origin order old.past)
+            ∙ ap (λ (xs : List Item). map (hart_kept t xs) (harts_of run)) was;
+        closers = l.closers ∙ o.closers ∙ sym (same_closers run origin order old.past (withdrawal_names order is) may)
+            ∙ ap (closers_of run) was;
       };
       arrivals = ap (arrivals run) l.past ∙ arrivals_stay run origin order old.past is may;
     }
@@ -288,7 +297,8 @@ sets_more : (r : Plugins) (q : ℕ) (spec : SetSpec) → Admits r (Register q sp
     → sets_of (after_order (Register q spec) r) q ≡ sets_of r q ++ spec ∷ []
 sets_more r q spec a =
     let now = with_set (plugin_of r q) spec in
-    ap (λ (n : ℕ). if nat_lt 0 q && nat_le q n then (plugin_of (after_order (Register q spec) r) q).sets else []) (length-set r.plugins (q - 1) now)
+    ap (λ (n : ℕ). if nat_lt 0 q && nat_le q n then (plugin_of (after_order (Register q spec) r) q).sets else [])
+    (length-set r.plugins (q - 1) now)
     ∙ ap (λ (p : Plugin). if is_installed r q then p.sets else []) (same_place r q now (installed_within r q a.0))
     ∙ ap (λ (b : Bool). if b then (plugin_of r q).sets ++ spec ∷ [] else []) a.0
     ∙ ap (λ (b : Bool). (if b then (plugin_of r q).sets else []) ++ spec ∷ []) (sym a.0)
@@ -297,7 +307,8 @@ sets_more r q spec a =
 abbrev made_at : Run → ℕ → ℕ → List Item → ℕ → SetSpec → Attachment
 made_at run q h past set spec = made_by q spec (progress run spec q set h past)
 
-new_attachment : (run : Run) (origin : Origin) (q : ℕ) (spec : SetSpec) (past : List Item) (h : ℕ) → Admits (plugins run past) (Register q spec) q
+new_attachment : (run : Run) (origin : Origin) (q : ℕ) (spec : SetSpec) (past : List Item) (h : ℕ)
+    → Admits (plugins run past) (Register q spec) q
     → attachment_of run q h (Ordered origin (Register q spec) ∷ past) ≡ opening q spec
 unfolding registry progress
 new_attachment run origin q spec past h a =
@@ -314,14 +325,16 @@ new_place : (run : Run) (origin : Origin) (q : ℕ) (spec : SetSpec) (past : Lis
 unfolding place_of
 new_place run origin q spec past h = rw (same q) refl
 
-new_waiting : (run : Run) (origin : Origin) (q : ℕ) (spec : SetSpec) (past : List Item) (h : ℕ) → Admits (plugins run past) (Register q spec) q
+new_waiting : (run : Run) (origin : Origin) (q : ℕ) (spec : SetSpec) (past : List Item) (h : ℕ)
+    → Admits (plugins run past) (Register q spec) q
     → placed_at is_waiting run (Ordered origin (Register q spec) ∷ past) q h ≡ Some (opening q spec)
 new_waiting run origin q spec past h a =
     let now = Ordered origin (Register q spec) ∷ past in
     ap (λ (p : Place). if is_waiting p then Some (attachment_of run q h now) else None) (new_place run origin q spec past h)
     ∙ ap (λ (x : Attachment). Some x) (new_attachment run origin q spec past h a)
 
-new_parked : (run : Run) (origin : Origin) (q : ℕ) (spec : SetSpec) (past : List Item) (h : ℕ) → Admits (plugins run past) (Register q spec) q
+new_parked : (run : Run) (origin : Origin) (q : ℕ) (spec : SetSpec) (past : List Item) (h : ℕ)
+    → Admits (plugins run past) (Register q spec) q
     → h < run.harts → Legal run past → IsStateLog run past
     → placed_at is_parked run (Ordered origin (Register q spec) ∷ past) q h ≡ placed_at is_parked run past q h
 new_parked run origin q spec past h a low legal state =
@@ -333,13 +346,15 @@ new_parked run origin q spec past h a low legal state =
     ap (λ (p : Place). if is_parked p then Some (attachment_of run q h now) else None) (new_place run origin q spec past h)
     ∙ sym (ap (λ (b : Bool). if b then Some (attachment_of run q h past) else None) none)
 
-new_arrival : (run : Run) (origin : Origin) (q : ℕ) (spec : SetSpec) (past : List Item) (h : ℕ) → Admits (plugins run past) (Register q spec) q
+new_arrival : (run : Run) (origin : Origin) (q : ℕ) (spec : SetSpec) (past : List Item) (h : ℕ)
+    → Admits (plugins run past) (Register q spec) q
     → arrival_at run (Ordered origin (Register q spec) ∷ past) q h ≡ Some spec
 unfolding registry
 new_arrival run origin q spec past h a =
     let r = plugins run past in
     let now = Ordered origin (Register q spec) ∷ past in
-    ap (λ (p : Place). if is_waiting p then Some (set_at run q (last_set (plugins run now) q) now) else None) (new_place run origin q spec past h)
+    ap (λ (p : Place). if is_waiting p then Some (set_at run q (last_set (plugins run now) q) now) else None)
+    (new_place run origin q spec past h)
     ∙ ap (λ (sets : List SetSpec). Some (last_spec sets)) (sets_more r q spec a)
     ∙ ap (λ (s : SetSpec). Some s) (last_more (sets_of r q) spec no_set)
 
@@ -348,7 +363,8 @@ record SetsWait (run : Run) (origin : Origin) (q : ℕ) (spec : SetSpec) (past :
   waiting : shelf is_waiting run (Ordered origin (Register q spec) ∷ past)
       ≡ slice_set (shelf is_waiting run past) (q - 1) (replicate run.harts (Some (opening q spec)))
   parked : shelf is_parked run (Ordered origin (Register q spec) ∷ past) ≡ shelf is_parked run past
-  arrivals : arrivals run (Ordered origin (Register q spec) ∷ past) ≡ slice_set (arrivals run past) (q - 1) (replicate run.harts (Some spec))
+  arrivals : arrivals run (Ordered origin (Register q spec) ∷ past)
+      ≡ slice_set (arrivals run past) (q - 1) (replicate run.harts (Some spec))
 
 sets_wait : (run : Run) (origin : Origin) (q : ℕ) (spec : SetSpec) (past : List Item) → allowed (plugins run past) (Register q spec) ≡ true
     → Legal run past → IsStateLog run past → SetsWait run origin q spec past
@@ -398,7 +414,8 @@ registrations_keep_order t origin plugin spec old new o legal l =
         waiting = l.waiting ∙ ap (λ rows. slice_set rows (plugin - 1) (replicate t.machine.harts (Some (opening plugin spec)))) o.waiting
             ∙ sym wait.waiting ∙ ap (shelf is_waiting run) was;
         parked = l.parked ∙ o.parked ∙ sym wait.parked ∙ ap (shelf is_parked run) was;
-        harts = l.harts ∙ o.harts ∙ sym (same_harts t origin order old.past) ∙ ap (λ (xs : List Item). map (hart_kept t xs) (harts_of run)) was;
+        harts = l.harts ∙ o.harts ∙ sym (same_harts t origin order old.past)
+            ∙ ap (λ (xs : List Item). map (hart_kept t xs) (harts_of run)) was;
         closers = l.closers ∙ o.closers ∙ sym (same_closers run origin order old.past tt may) ∙ ap (closers_of run) was;
       };
       arrivals = ap (arrivals run) l.past ∙ wait.arrivals;

@@ -3,10 +3,11 @@ use Rattle.std.proofs.Common.{◌≡◌, ◌≢◌, ◌==◌, ◌&&◌, ◌+◌,
 use Rattle.std.proofs.Common.{Option, Some, None, refl, sym, ap, arith, inl, inr, length, map}
 use Rattle.std.specs.Prelude.{if◌then◌else◌, filter, replicate, slice_index_or, slice_set}
 use Rattle.std.specs.List.{range_with_len, filter_map, cons_option}
-use Rattle.std.proofs.lemmas.Bool.{cases_Bool, false≢true, and_left, and_right}
+use Rattle.std.proofs.lemmas.Bool.{cases_Bool, and_left, and_right}
 use Rattle.std.proofs.lemmas.Bool.Decides.{nat_tests}
 use Rattle.std.proofs.lemmas.List.{length-append}
 use Rattle.run_order.specs.Laws.{with_place}
+use Rattle.run_order.proofs.Installing.{map_one}
 use Rattle.run_order.proofs.Shelves.{map_same}
 use Rattle.run_order.proofs.Taking.{map_at}
 
@@ -34,12 +35,6 @@ map_set_within f g a (suc n) (suc i) within same =
     ∙ ap (λ xs. f a ∷ xs) (map_set_within f g (a + 1) n i (omega (arith, within))
     (λ k low high off. same k (omega (arith, low)) (omega (arith, high)) (λ e. off (omega (arith, e))))
     ∙ ap (λ (k : ℕ). slice_set (map f (range_with_len (a + 1) n)) i (g k)) (omega arith))
-
-map_one : {A : Type 0} (x : A) (f : ℕ → A) (a n : ℕ) → ((k : ℕ) → a ≤ k → k < a + n → f k ≡ x) → map f (range_with_len a n) ≡ replicate n x
-map_one x f a zero is = refl
-map_one x f a (suc n) is =
-    ap (λ y. y ∷ map f (range_with_len (a + 1) n)) (is a (omega arith) (omega arith))
-    ∙ ap (λ ys. x ∷ ys) (map_one x f (a + 1) n (λ k low high. is k (omega (arith, low)) (omega (arith, high))))
 
 -- the row of plug-in q is something else
 row_set : {A : Type 0} (f g : ℕ → ℕ → A) (m n q : ℕ) (row : List A) → 1 ≤ q → q < 1 + n
@@ -82,7 +77,8 @@ at_end (y ∷ xs) x d = at_end xs x d
 
 pub last_more : {A : Type 0} (xs : List A) (x d : A) → slice_index_or (xs ++ x ∷ []) (length (xs ++ x ∷ []) - 1) d ≡ x
 last_more xs x d =
-    ap (λ (i : ℕ). slice_index_or (xs ++ x ∷ []) i d) {x = length (xs ++ x ∷ []) - 1} {y = length xs} (omega (arith, length-append xs (x ∷ [])))
+    ap (λ (i : ℕ). slice_index_or (xs ++ x ∷ []) i d) {x = length (xs ++ x ∷ []) - 1} {y = length xs}
+    (omega (arith, length-append xs (x ∷ [])))
     ∙ at_end xs x d
 
 -- What is gathered of numbers, where one number gives nothing any more.
