@@ -16,3 +16,6 @@ pub mod Outs
 pub mod Notices
 pub mod Completions
 pub mod Dones
+pub mod Tables
+pub mod Orders
+pub mod Backs
