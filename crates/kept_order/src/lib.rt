@@ -5,9 +5,9 @@
 pub mod arriving;
 pub mod closing;
 pub mod fitting;
-pub mod going;
 pub mod hearing;
 pub mod leaving;
+pub mod lying;
 pub mod opening;
 pub mod ordering;
 pub mod returning;
