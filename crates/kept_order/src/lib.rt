@@ -7,7 +7,6 @@ pub mod closing;
 pub mod fitting;
 pub mod hearing;
 pub mod leaving;
-pub mod lying;
 pub mod opening;
 pub mod ordering;
 pub mod returning;
