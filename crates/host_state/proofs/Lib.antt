@@ -2,3 +2,4 @@ pub mod Placing
 pub mod Commits
 pub mod Filters
 pub mod Rooms
+pub mod Rows
