@@ -11,3 +11,4 @@ pub mod Numbered
 pub mod Arrivals
 pub mod TurnLengths
 pub mod Asking
+pub mod Gots
