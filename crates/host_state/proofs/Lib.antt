@@ -1,2 +1,4 @@
 pub mod Placing
 pub mod Filters
+pub mod Shown
+pub mod WaitingSets
