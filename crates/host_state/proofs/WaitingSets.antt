@@ -1,31 +1,36 @@
 -- Sets that wait in the state for a hart.
-use Rattle.std.proofs.Common.{◌≡◌, ◌&&◌, ◌+◌, ◌-◌, ◌<◌, ◌≤◌, ◌∷◌, [], ◌∙◌, ℕ, Bool, true, false, List, Option, Some, None, length}
-use Rattle.std.proofs.Common.{refl, sym, ap, subst, arith}
+use Rattle.std.proofs.Common.{◌≡◌, ◌≢◌, ◌==◌, ◌&&◌, ◌+◌, ◌-◌, ◌<◌, ◌≤◌, ◌∷◌, [], ◌∙◌, ℕ, zero, suc, Bool, true, false, List, Option, Some, None}
+use Rattle.std.proofs.Common.{All, inl, inr, length, refl, sym, ap, subst, arith}
 use Rattle.std.specs.Prelude.{if◌then◌else◌, slice_index_or, map, option_map, Vec}
 use Rattle.std.specs.Global.{Global}
 use Rattle.std.specs.List.{range_with_len}
 use Rattle.std.specs.Cmp.Derive.{both_true}
-use Rattle.std.proofs.lemmas.Bool.{and_right, false≢true}
+use Rattle.std.proofs.lemmas.Bool.{cases_Bool, and_right, false≢true}
+use Rattle.std.proofs.lemmas.List.Elements.{All-nil, All-cons}
 use Rattle.std.proofs.lemmas.List.FromFn.{length-map-range_with_len, get_or-map-range_with_len}
 use Rattle.flat_model.specs.declared.plugins.SetSpec.{SetSpec}
 use Rattle.flat_model.specs.declared.journals.Item.{Item}
 use Rattle.flat_model.specs.declared.journals.Item.TheVariants.{Got}
 use Rattle.flat_model.specs.declared.journals.PlugState.{PlugState}
 use Rattle.flat_model.specs.declared.journals.PlugState.TheVariants.{Live}
-use Rattle.flat_model.specs.Registry.{Plugins, plugin_of, is_installed, state_of}
-use Rattle.watcher_api.specs.Attachment.{Attachment}
+use Rattle.flat_model.specs.Registry.{Plugins, registry, plugin_of, is_installed, state_of}
+use Rattle.watcher_api.specs.Attachment.{Attachment, with_set}
 use Rattle.run_rules.specs.Guest.{Run, plugins}
 use Rattle.run_rules.specs.Heard.{set_at, last_set, is_live}
 use Rattle.run_rules.specs.Legal.{is_there}
-use Rattle.run_rules.specs.Places.{place_of, is_waiting, may_get}
-use Rattle.run_order.specs.Sets.{attachment_of, placed_at}
+use Rattle.run_rules.specs.Places.{Place, Nowhere, Waiting, WithHart, Parked, Out, place_of, is_waiting, is_with_hart, got, may_get}
+use Rattle.run_order.specs.Sets.{attachment_of, placed_at, sets_for}
 use Rattle.run_order.specs.Laws.{with_place}
 use Rattle.run_order.specs.InOrder.{InOrder, task_run}
-use Rattle.run_rules.proofs.Turns.{first_true}
-use Rattle.kept_order.specs.Arriving.{arrivals, arrival_at, HasArrived}
+use Rattle.run_rules.proofs.Turns.{first_true, rest_true}
+use Rattle.run_order.proofs.Taking.{own_place}
+use Rattle.run_order.proofs.Taking.{waiting_is as waits_is}
+use Rattle.kept_order.specs.Hearing.{specs_for}
+use Rattle.kept_order.specs.Arriving.{arrivals, arrival_at, with_spec, HasArrived}
 use Rattle.kept_order.specs.Taking.{HasGot}
 use Rattle.kept_order.proofs.Gone.{there_low}
-use Rattle.kept_order.proofs.Takes.{takes_keep_order}
+use Rattle.kept_order.proofs.Numbered.{all_given, AreNumbered}
+use Rattle.kept_order.proofs.Takes.{takes_keep_order, takes_add_sets}
 use Rattle.kept_order.proofs.Arrivals.{takes_arrive}
 use Rattle.host_state.specs.Tables.{rows_of, row_at}
 use Rattle.host_state.specs.State.{StateValue, IsSound, stored_of}
@@ -219,6 +224,72 @@ pub same_sound : (s : StateValue) (waiting : List (List (Option Attachment))) (a
     → IsSound s → waiting ≡ s.waiting → arriving ≡ s.arriving → IsSound (record s { waiting = waiting; arriving = arriving })
 same_sound s waiting arriving sound sets specs = subst IsSound (sym (same_state s waiting arriving sets specs)) sound
 
-pub taken_of : (h plugin : ℕ) (s v now : StateValue) (set : Attachment) (spec : SetSpec) → s ≡ v → IsTakenOut h plugin s now set spec
-    → IsTakenOut h plugin v now set spec
-taken_of h plugin s v now set spec is taken = subst (λ (x : StateValue). IsTakenOut h plugin x now set spec) is taken
+-- no set of a plug-in is with a hart for which its set waits
+none_of : {A : Type 0} (number : A → ℕ) (test : ℕ → Bool) (made : ℕ → A) (q a n : ℕ) → AreNumbered number made → test q ≡ false
+    → All (λ x. number x ≢ q) (all_given test made a n)
+none_of number test made q a zero numbered none = All-nil (λ x. number x ≢ q)
+none_of number test made q a (suc n) numbered none =
+    elim (cases_Bool (test a)) as (λ r. All (λ x. number x ≢ q) (all_given test made a (suc n))) [
+      | inl is ↦ rw is (All-cons (λ x. number x ≢ q) (made a) (all_given test made (a + 1) n)
+      (λ e. false≢true (sym none ∙ ap test (sym e ∙ numbered a) ∙ is)) (none_of number test made q (a + 1) n numbered none))
+      | inr off ↦ rw off (none_of number test made q (a + 1) n numbered none)
+    ]
+
+-- what becomes of a state of which a set was taken
+pub taken_of : (h plugin : ℕ) (s v now : StateValue) (set : Attachment) (spec : SetSpec) → IsSound s → 1 ≤ plugin
+    → plugin ≤ length s.registry.table.plugins → IsStanding s h plugin set spec → s ≡ v → now.past ≡ Got h plugin ∷ s.past
+    → now ≡ record s { past = now.past; waiting = now.waiting; arriving = now.arriving } → IsTakenOut h plugin v now set spec
+taken_of h plugin s v now set spec sound least most stands is past rest =
+    let run = task_run s.task in
+    let there : plugin ≤ length (plugins run s.past).plugins =
+    subst (λ (r : Plugins). plugin ≤ length r.plugins) sound.order.plugins most in
+    let arrived : HasArrived run h plugin s.past =
+    takes_arrive run h plugin s.past sound.order.legal sound.order.state_log least there (there_low run h s.past (first_true _ _ stands.may)) stands.may in
+    let waits : is_waiting (place_of run plugin h s.past) ≡ true =
+    rest_true (is_live (plugin_of (plugins run s.past) plugin).state) _ (rest_true (is_there run h s.past) _ stands.may) in
+    let away : is_with_hart (place_of run plugin h s.past) ≡ false = ap is_with_hart (waits_is (place_of run plugin h s.past) waits) in
+    let n = length (plugins run s.past).plugins in
+    subst (λ (x : StateValue). IsTakenOut h plugin x now set spec) is (record {
+      may = stands.may;
+      number = ap (λ (a : Attachment). a.plugin) stands.attached;
+      past = past;
+      rest = rest;
+      no_set = none_of (λ (a : Attachment). a.plugin) (λ p. is_with_hart (place_of run p h s.past)) (λ p. attachment_of run p h s.past) plugin 1 n
+          (λ p. refl) away;
+      no_filters = none_of (λ (f : ℕ × SetSpec). f.0) (λ p. is_with_hart (place_of run p h s.past))
+          (λ p. (p, set_at run p (last_set (plugins run s.past) p) s.past)) plugin 1 n (λ p. refl) away;
+      sets = ap (sets_for is_with_hart run h) past ∙ takes_add_sets run h plugin s.past least stands.may
+          ∙ ap (λ (a : Attachment). with_set a (sets_for is_with_hart run h s.past)) (sym stands.attached);
+      specs = ap (specs_for run h) past ∙ arrived.had
+          ∙ ap (λ (f : SetSpec). with_spec (plugin, f) (specs_for run h s.past)) (sym stands.filters);
+    })
+
+-- What a hart may have yet.
+
+got_off : (place : Place) → is_waiting (got place) ≡ false
+got_off Nowhere = refl
+got_off Waiting = refl
+got_off WithHart = refl
+got_off Parked = refl
+got_off Out = refl
+
+-- what it may not have it may not have either once it took another set
+pub still_none : (run : Run) (h q p : ℕ) (past : List Item) → may_get run h p past ≡ false → may_get run h p (Got h q ∷ past) ≡ false
+unfolding place_of registry
+still_none run h q p past none =
+    let there = is_there run h past in
+    let live = is_live (plugin_of (plugins run past) p).state in
+    elim (cases_Bool ((h == h) && (q == p))) [
+      | inr off ↦ rw off none
+      | inl own ↦ rw own (and_right there (live && is_waiting (got (place_of run p h past)))
+      (and_right live (is_waiting (got (place_of run p h past))) (got_off (place_of run p h past))))
+    ]
+
+-- nor the set that it took
+pub own_none : (run : Run) (h plugin : ℕ) (past : List Item) → may_get run h plugin (Got h plugin ∷ past) ≡ false
+own_none run h plugin past =
+    let now = Got h plugin ∷ past in
+    let off : is_waiting (place_of run plugin h now) ≡ false =
+    ap is_waiting (own_place run h plugin past) ∙ got_off (place_of run plugin h past) in
+    let live = is_live (plugin_of (plugins run now) plugin).state in
+    and_right (is_there run h now) (live && is_waiting (place_of run plugin h now)) (and_right live (is_waiting (place_of run plugin h now)) off)

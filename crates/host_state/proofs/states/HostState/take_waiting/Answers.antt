@@ -100,11 +100,6 @@ returns g c =
     let live = sym (ap Some (sym c.in-Some-Live.field-0-is) ∙ c.in-Some-Live.ensures) in
     let stands = one_stands set_in spec_in _ c.self.invariant c.args.no c.args.plugin c.requires.least most there rows refl refl c.in_ok-arrival.arrival some live in
     record {
-      taken = taken_of c.args.no c.args.plugin _ _ _ _ _ c.self.view_is (record {
-        may = stands.may;
-        set = stands.attached;
-        spec = stands.filters;
-        past = c.with_item-self-inside.ensures.item;
-        rest = refl;
-      });
+      taken = taken_of c.args.no c.args.plugin _ _ _ _ _ c.self.invariant c.requires.least most stands c.self.view_is
+          c.with_item-self-inside.ensures.item refl;
     }
