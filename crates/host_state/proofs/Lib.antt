@@ -3,3 +3,6 @@ pub mod Commits
 pub mod Filters
 pub mod Rooms
 pub mod Rows
+pub mod Shown
+pub mod WaitingSets
+pub mod Gathering
