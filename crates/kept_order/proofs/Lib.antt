@@ -11,3 +11,6 @@ pub mod Numbered
 pub mod Arrivals
 pub mod TurnLengths
 pub mod Asking
+pub mod Tables
+pub mod Orders
+pub mod Backs

@@ -7,5 +7,7 @@ pub mod fitting;
 pub mod hearing;
 pub mod leaving;
 pub mod opening;
+pub mod ordering;
+pub mod returning;
 pub mod taking;
 pub mod turning;
