@@ -1,2 +1,4 @@
 pub mod Placing
 pub mod Parking
+pub mod Rows
+pub mod Departing

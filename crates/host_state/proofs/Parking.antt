@@ -1,26 +1,16 @@
 -- Sets that are parked one after the other.
-use Rattle.std.proofs.Common.{◌≡◌, ◌<◌, ◌≤◌, ◌-◌, ◌∙◌, ℕ, suc, List, [], ◌∷◌, length, map, refl, sym, ap, subst, arith, Option, Some}
-use Rattle.std.specs.Prelude.{Vec, slice_set, slice_index_or, All}
+use Rattle.std.proofs.Common.{◌≡◌, ◌<◌, ◌≤◌, ◌-◌, ◌∙◌, ℕ, List, [], ◌∷◌, ◌++◌, take, drop, length, map, refl, sym, ap, arith, Option, Some}
+use Rattle.std.specs.Prelude.{Vec, All, slice_set}
 use Rattle.std.specs.Global.{Global}
+use Rattle.std.proofs.Math.Seq.{take-append_seam}
 use Rattle.std.proofs.lemmas.List.{length-set, length-map}
-use Rattle.std.proofs.lemmas.List.Elements.{All-get_or, All-set}
+use Rattle.std.proofs.lemmas.List.Elements.{All-get_or, All-set, All-head, All-same}
 use Rattle.watcher_api.specs.Attachment.{Attachment}
 use Rattle.run_order.specs.Laws.{with_place, park_all}
 use Rattle.host_state.specs.Tables.{rows_of, row_at, AreWide}
 
-pub none_of : {A : Type 0} (xs : List A) → length xs ≡ 0 → xs ≡ []
-none_of [] none = refl
-none_of (x ∷ xs) none = absurd (omega arith)
-
--- the parts of a list of which each element has some property
-module _ {A : Type 0} (P : A → Type 0) (xs : List A) (x : A) (rest : List A) (is : xs ≡ x ∷ rest) (all : All P xs) where
-  pub first_of : P x
-  first_of = let here : All P (x ∷ rest) = subst (All P) is all in here 0 x (omega arith)
-
-  pub rest_of : All P rest
-  rest_of =
-      let here : All P (x ∷ rest) = subst (All P) is all in
-      λ k d below. here (suc k) d (omega (arith, below))
+pub first_of : {A : Type 0} (P : A → Type 0) (xs : List A) (x : A) (rest : List A) → xs ≡ x ∷ rest → All P xs → P x
+first_of P xs x rest is all = All-head P x rest (All-same P (x ∷ rest) xs (sym is) all)
 
 -- a table that has a place in each row
 module _ {A : Type 0} (place : ℕ) (rows : List (Vec A Global)) (wide : AreWide place (rows_of rows)) (i : ℕ) (below : i < length rows) where
@@ -43,3 +33,9 @@ parks_next h i j a sets rest rows new all is put row place last =
     ap (park_all h rest)
     (put ∙ ap (λ (k : ℕ). with_place rows k j (Some a)) row ∙ ap (λ (k : ℕ). with_place rows (a.plugin - 1) k (Some a)) place)
     ∙ sym (ap (λ (ss : List Attachment). park_all h ss rows) is) ∙ last
+
+-- a slice of a whole vector is written
+pub whole : {A : Type 0} (n : ℕ) (new old : List A) → length new ≡ length old → n ≡ length old → take n (new ++ drop (length new) old) ≡ new
+whole n new old long is =
+    let at : n ≡ length new = omega arith in
+    ap (λ (k : ℕ). take k (new ++ drop (length new) old)) at ∙ take-append_seam new (drop (length new) old)

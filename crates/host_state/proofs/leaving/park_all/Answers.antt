@@ -1,10 +1,12 @@
-use Rattle.std.proofs.Common.{◌≡◌, ◌<◌, ◌≤◌, ◌-◌, ◌∷◌, [], ◌∙◌, ℕ, List, length, arith, ap, sym, subst}
+use Rattle.std.proofs.Common.{◌≡◌, ◌<◌, ◌≤◌, [], ◌∙◌, ℕ, List, length, arith, ap, sym, subst}
 use Rattle.std.specs.Prelude.{All}
 use Rattle.std.specs.Vec.Iter.{into_iter_items}
+use Rattle.std.proofs.lemmas.List.{nil_from_length}
+use Rattle.std.proofs.lemmas.List.Elements.{All-rest}
 use Rattle.watcher_api.specs.Attachment.{Attachment}
 use Rattle.run_order.specs.Laws.{park_all}
 use Rattle.host_state.specs.Tables.{rows_of, AreWide}
-use Rattle.host_state.proofs.Parking.{none_of, first_of, rest_of, wide_at, wide_with, parks_next}
+use Rattle.host_state.proofs.Parking.{first_of, wide_at, wide_with, parks_next}
 use Rattle.host_state.proofs.leaving.park_all.Goals as goal
 
 abbrev HasRow : ℕ → Attachment → Type 0
@@ -35,7 +37,7 @@ loop-set-preserved g c =
           (rows_of at.rows) (rows_of c.put_at.new.rows) (park_all c.args.no c.args.sets.items (rows_of c.args.rows.now)) is
           c.put_at.ensures.put (omega arith) c.from-in-loop-set.ensures at.invariant.rest;
       rows = subst (λ (k : ℕ). All (HasRow k) rest) long
-          (rest_of (HasRow (length at.rows)) (into_iter_items at.set-iterator) c.in-Some.set rest is at.invariant.rows);
+          (All-rest (HasRow (length at.rows)) c.in-Some.set rest (into_iter_items at.set-iterator) is at.invariant.rows);
       wide = subst (AreWide c.args.no) (sym c.put_at.ensures.put)
           (wide_with c.args.no at.rows at.invariant.wide c.from.result below c.from-in-loop-set.result _);
     }
@@ -44,5 +46,5 @@ pub returns : goal.returns
 returns g c =
     let at = c.loop-set in
     let ended = c.in-None.ensures.steps in
-    let none : into_iter_items at.set-iterator ≡ [] = none_of (into_iter_items at.set-iterator) (sym at.invariant.count ∙ ended.0) in
+    let none : into_iter_items at.set-iterator ≡ [] = nil_from_length (into_iter_items at.set-iterator) (sym at.invariant.count ∙ ended.0) in
     record { parked = ap (λ (sets : List Attachment). park_all c.args.no sets (rows_of at.rows)) (sym none) ∙ at.invariant.rest }
