@@ -1,4 +1,5 @@
 pub mod Placing
+pub mod Filters
 pub mod Parking
 pub mod Rows
 pub mod Departing

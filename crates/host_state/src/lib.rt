@@ -1,6 +1,7 @@
 //! What the harts of a run share: the guest's memory and services, the plug-ins, the journal, and the boxes on their way.
 #![tactic(auto)]
 
+pub use specs::Specs;
 pub use states::HostState;
 pub use tasks::Task;
 
@@ -8,6 +9,7 @@ mod arrivals;
 mod committing;
 mod leaving;
 mod reading;
+mod specs;
 mod states;
 mod tables;
 mod tasks;
