@@ -1,5 +1,5 @@
 -- The state as a hart leaves.
-use Rattle.std.proofs.Common.{◌≡◌, ◌<◌, ◌≤◌, ◌∙◌, ℕ, true, List, ◌∷◌, length, map, refl, sym, ap, subst, arith, Option, Some}
+use Rattle.std.proofs.Common.{◌≡◌, ◌<◌, ◌≤◌, ◌∙◌, ℕ, true, List, ◌∷◌, length, refl, sym, ap, subst, arith, Option, Some}
 use Rattle.std.specs.Prelude.{Vec, All, slice_set}
 use Rattle.std.specs.Global.{Global}
 use Rattle.std.proofs.lemmas.List.{length-map}
@@ -15,9 +15,9 @@ use Rattle.run_journal.specs.Journal.{JournalState}
 use Rattle.watcher_api.specs.Attachment.{Attachment}
 use Rattle.run_rules.specs.Guest.{plugins}
 use Rattle.run_rules.specs.Legal.{Legal, is_there}
-use Rattle.run_rules.specs.Places.{is_parked, is_with_hart}
+use Rattle.run_rules.specs.Places.{is_with_hart}
 use Rattle.run_rules.proofs.Turns.{first_true}
-use Rattle.run_order.specs.Sets.{placed_at, sets_for}
+use Rattle.run_order.specs.Sets.{sets_for}
 use Rattle.run_order.specs.InOrder.{task_run, hart_kept}
 use Rattle.run_order.specs.Laws.{park_all}
 use Rattle.kept_order.specs.Arriving.{arrivals}
@@ -26,7 +26,7 @@ use Rattle.kept_order.proofs.Leaves.{leaves_keep_order}
 use Rattle.kept_order.proofs.Arrivals.{arrivals_stay}
 use Rattle.host_state.specs.State.{StateValue, IsSound, stored_of}
 use Rattle.host_state.specs.Tables.{rows_of, AreWide}
-use Rattle.host_state.proofs.Rows.{table_rows, table_wide, sets_have_rows}
+use Rattle.host_state.proofs.Rows.{parked_long, parked_wide, sets_have_rows}
 
 -- `was` is the state's value, and `s` the value of its parts
 module _ (was s : StateValue) (is : s ≡ was) (sound : IsSound s) (h : ℕ) (legal : Legal (task_run was.task) (Left h ∷ was.past)) where
@@ -41,28 +41,27 @@ module _ (was s : StateValue) (is : s ≡ was) (sound : IsSound s) (h : ℕ) (le
   low = there_low (task_run s.task) h s.past here
 
   pub rows_there : (rows : List (Vec (Option Attachment) Global)) (sets : List Attachment) → rows_of rows ≡ s.parked
-      → sets ≡ sets_for is_with_hart (task_run was.task) h was.past
+      → (parts : List Attachment) → sets ≡ parts → parts ≡ sets_for is_with_hart (task_run was.task) h was.past
       → All (λ a. (1 ≤ a.plugin) × (a.plugin ≤ length rows)) sets
-  rows_there rows sets same of =
-      let n = length (plugins (task_run s.task) s.past).plugins in
-      let long : length rows ≡ n =
+  rows_there rows sets same parts whole of =
+      let long : length rows ≡ length (plugins (task_run s.task) s.past).plugins =
       sym (length-map rows (λ (row : Vec (Option Attachment) Global). row.items))
-      ∙ ap (λ (table : List (List (Option Attachment))). length table) (same ∙ sound.order.parked)
-      ∙ table_rows (placed_at is_parked (task_run s.task) s.past) s.task.machine.harts n in
+      ∙ ap (λ (table : List (List (Option Attachment))). length table) same ∙ parked_long s.task (stored_of s) sound.order in
       subst (All (λ a. (1 ≤ a.plugin) × (a.plugin ≤ length rows)))
-      (ap (λ (v : StateValue). sets_for is_with_hart (task_run v.task) h v.past) is ∙ sym of)
+      (ap (λ (v : StateValue). sets_for is_with_hart (task_run v.task) h v.past) is ∙ sym (whole ∙ of))
       (sets_have_rows is_with_hart (task_run s.task) h s.past (length rows) long)
 
   pub rows_wide : (rows : List (Vec (Option Attachment) Global)) → rows_of rows ≡ s.parked → AreWide h (rows_of rows)
-  rows_wide rows same =
-      subst (AreWide h) (sym (same ∙ sound.order.parked))
-      (table_wide (placed_at is_parked (task_run s.task) s.past) s.task.machine.harts
-      (length (plugins (task_run s.task) s.past).plugins) h low)
+  rows_wide rows same = subst (AreWide h) (sym same) (parked_wide s.task (stored_of s) sound.order h low)
 
   pub hart_below : h < length s.harts
   hart_below =
-      omega (arith, low, ap (λ (hs : List (Option HartState)). length hs) sound.order.harts,
-      length-map-range_with_len (hart_kept s.task s.past) 0 s.task.machine.harts)
+      omega (
+        arith,
+        low,
+        ap (λ (hs : List (Option HartState)). length hs) sound.order.harts,
+        length-map-range_with_len (hart_kept s.task s.past) 0 s.task.machine.harts,
+      )
 
   pub hart_is : is_hart s.registry.table h ≡ true
   hart_is = ap (λ (r : Plugins). is_hart r h) sound.order.plugins ∙ first_true _ _ here
@@ -92,14 +91,20 @@ module _ (was s : StateValue) (is : s ≡ was) (sound : IsSound s) (h : ℕ) (le
         places = sound.places;
         starts = sound.starts;
         boxes = subst (λ (k : ℕ). k ≤ s.boxes) (sym (ap (λ (r : Plugins). r.boxes) table)) sound.boxes;
-        closers = omega (arith, sound.closers, ap (λ (r : Plugins). length r.plugins) table, length-map s.registry.table.plugins (without_hart h));
+        closers = omega (arith, sound.closers, ap (λ (r : Plugins). length r.plugins) table,
+        length-map s.registry.table.plugins (without_hart h));
         failed = sound.failed;
       }
 
-pub parked_by : (h : ℕ) {sets others : List Attachment} {rows tables : List (List (Option Attachment))} → sets ≡ others → rows ≡ tables
-    → park_all h sets rows ≡ park_all h others tables
-parked_by h {sets} {others} {rows} {tables} same table =
-    ap (λ (ss : List Attachment). park_all h ss rows) same ∙ ap (park_all h others) table
+-- sets that are parked in a table that is written into a vector
+pub parked_by : (h : ℕ) (all new old base : List (Vec (Option Attachment) Global)) (sets parts others : List Attachment)
+    → all ≡ new → rows_of new ≡ park_all h sets (rows_of old) → old ≡ base → sets ≡ parts → parts ≡ others
+    → rows_of all ≡ park_all h others (rows_of base)
+parked_by h all new old base sets parts others written is same whole of =
+    ap rows_of written ∙ is ∙ ap (λ (rows : List (Vec (Option Attachment) Global)). park_all h sets (rows_of rows)) same
+    ∙ ap (λ (ss : List Attachment). park_all h ss (rows_of base)) (whole ∙ of)
 
-pub kept_by : (harts : List (Option HartState)) {i h : ℕ} {x y : HartState} → i ≡ h → x ≡ y → slice_set harts i (Some x) ≡ slice_set harts h (Some y)
-kept_by harts {i} {h} {x} {y} place same = ap (λ (k : ℕ). slice_set harts k (Some x)) place ∙ ap (λ (z : HartState). slice_set harts h (Some z)) same
+pub kept_by : (harts : List (Option HartState)) (i h : ℕ) (x y : HartState) → i ≡ h → x ≡ y
+    → slice_set harts i (Some x) ≡ slice_set harts h (Some y)
+kept_by harts i h x y place same =
+    ap (λ (k : ℕ). slice_set harts k (Some x)) place ∙ ap (λ (z : HartState). slice_set harts h (Some z)) same

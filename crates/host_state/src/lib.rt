@@ -9,6 +9,7 @@ mod arrivals;
 mod committing;
 mod leaving;
 mod reading;
+mod returning;
 mod specs;
 mod states;
 mod tables;
