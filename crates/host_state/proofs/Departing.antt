@@ -91,8 +91,12 @@ module _ (was s : StateValue) (is : s ≡ was) (sound : IsSound s) (h : ℕ) (le
         places = sound.places;
         starts = sound.starts;
         boxes = subst (λ (k : ℕ). k ≤ s.boxes) (sym (ap (λ (r : Plugins). r.boxes) table)) sound.boxes;
-        closers = omega (arith, sound.closers, ap (λ (r : Plugins). length r.plugins) table,
-        length-map s.registry.table.plugins (without_hart h));
+        closers = omega (
+          arith,
+          sound.closers,
+          ap (λ (r : Plugins). length r.plugins) table,
+          length-map s.registry.table.plugins (without_hart h),
+        );
         failed = sound.failed;
       }
 
