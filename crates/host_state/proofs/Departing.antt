@@ -26,7 +26,7 @@ use Rattle.kept_order.proofs.Leaves.{leaves_keep_order}
 use Rattle.kept_order.proofs.Arrivals.{arrivals_stay}
 use Rattle.host_state.specs.State.{StateValue, IsSound, stored_of}
 use Rattle.host_state.specs.Tables.{rows_of, AreWide}
-use Rattle.host_state.proofs.Rows.{parked_long, parked_wide, sets_have_rows}
+use Rattle.host_state.proofs.Shelved.{parked_long, parked_wide, sets_have_rows}
 
 -- `was` is the state's value, and `s` the value of its parts
 module _ (was s : StateValue) (is : s ≡ was) (sound : IsSound s) (h : ℕ) (legal : Legal (task_run was.task) (Left h ∷ was.past)) where

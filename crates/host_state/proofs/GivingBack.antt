@@ -27,7 +27,7 @@ use Rattle.kept_order.proofs.Backs.{Owes, gives_owed, backs_keep_order, backs_ta
 use Rattle.host_state.specs.State.{StateValue, IsSound, stored_of}
 use Rattle.host_state.specs.Tables.{rows_of, row_at}
 use Rattle.host_state.proofs.Mapped.{seen, seen_at, seen_long, seen_wide}
-use Rattle.host_state.proofs.Rows.{waiting_long, waiting_wide, waiting_at, parked_long, parked_wide, set_found}
+use Rattle.host_state.proofs.Shelved.{waiting_long, waiting_wide, waiting_at, parked_long, parked_wide, set_found}
 
 -- a plug-in that may be given back has a number
 pub numbered : (run : Run) (h plugin : ℕ) (past : List Item) → Legal run (GaveBack h plugin ∷ past) → 1 ≤ plugin

@@ -1,7 +1,7 @@
 pub mod Placing
 pub mod Filters
 pub mod Parking
-pub mod Rows
+pub mod Shelved
 pub mod Departing
 pub mod Mapped
 pub mod GivingBack
