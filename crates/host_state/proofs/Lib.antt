@@ -1,5 +1,7 @@
 pub mod Placing
+pub mod Commits
 pub mod Filters
+pub mod Rooms
 pub mod Parking
 pub mod Shelved
 pub mod Departing

@@ -3,6 +3,7 @@
 #![tactic(auto)]
 
 pub mod arriving;
+pub mod closing;
 pub mod fitting;
 pub mod hearing;
 pub mod leaving;
