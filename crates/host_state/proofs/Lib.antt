@@ -6,3 +6,8 @@ pub mod Rows
 pub mod Shown
 pub mod WaitingSets
 pub mod Gathering
+pub mod Parking
+pub mod Shelved
+pub mod Departing
+pub mod Mapped
+pub mod GivingBack
