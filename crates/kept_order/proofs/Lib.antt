@@ -19,3 +19,4 @@ pub mod Dones
 pub mod Tables
 pub mod Orders
 pub mod Backs
+pub mod Rows
