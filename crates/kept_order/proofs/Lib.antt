@@ -20,3 +20,5 @@ pub mod Tables
 pub mod Orders
 pub mod Backs
 pub mod Rows
+pub mod Asked
+pub mod Seats
