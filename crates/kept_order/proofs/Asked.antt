@@ -2,7 +2,6 @@
 use Rattle.std.proofs.Common.{◌≡◌, ◌≢◌, ◌==◌, ◌&&◌, ◌+◌, ◌-◌, ◌<◌, ◌≤◌, ◌∷◌, [], ◌++◌, ◌∙◌, ℕ, zero, suc, Bool, true, false, not, List}
 use Rattle.std.proofs.Common.{refl, sym, ap, subst, arith, nat_lt, nat_le, inl, inr, length}
 use Rattle.std.specs.Prelude.{if◌then◌else◌, slice_index_or, slice_set}
-use Rattle.std.specs.List.{list_all}
 use Rattle.std.specs.Cmp.Derive.{both_true}
 use Rattle.std.proofs.lemmas.Bool.{cases_Bool, false≢true, and_right, lt-ltb, lt-leb, leb-true, leb-false}
 use Rattle.std.proofs.lemmas.Bool.Decides.{nat_tests}
@@ -20,7 +19,7 @@ use Rattle.flat_model.specs.declared.journals.PlugState.{PlugState}
 use Rattle.flat_model.specs.declared.journals.PlugState.TheVariants as states
 use Rattle.flat_model.specs.Asks.{stays}
 use Rattle.flat_model.specs.Registry.{Plugins, Plugin, no_plugin, plugin_of, is_installed, sets_of, registry, after_order}
-use Rattle.flat_model.specs.Registry.{with_plugin, with_set, withdrawn, without_hart, done_state, is_closing, is_complete, owes}
+use Rattle.flat_model.specs.Registry.{with_set, withdrawn, done_state, is_closing, is_complete, owes}
 use Rattle.run_rules.specs.Guest.{Run, plugins}
 use Rattle.run_rules.specs.Due.{allowed}
 use Rattle.run_rules.specs.Heard.{progress, opening_progress, is_live, waiting}
@@ -33,7 +32,6 @@ use Rattle.run_rules.proofs.Growing.{fresh, later_sets_hear_nothing}
 use Rattle.run_rules.proofs.Keeping.{left_sets, order_sets, placed_sets}
 use Rattle.run_rules.proofs.Tails.{hears_none}
 use Rattle.run_rules.proofs.Turns.{first_true, rest_true}
-use Rattle.run_order.proofs.Installing.{new_sets}
 use Rattle.kept_order.proofs.Arrivals.{last_spec}
 use Rattle.kept_order.proofs.Orders.{sets_more}
 use Rattle.kept_order.proofs.Listening.{MaySteps, all_at, waits_for_none}

@@ -1,5 +1,5 @@
 -- Turns that begin and go on, and the events of steps in a row.
-use Rattle.std.proofs.Common.{◌≡◌, ◌==◌, ◌&&◌, ◌||◌, ◌+◌, ◌<◌, ◌≤◌, ◌∷◌, [], ◌++◌, ◌∙◌, ℕ, zero, suc, Bool, true, false, not, List}
+use Rattle.std.proofs.Common.{◌≡◌, ◌==◌, ◌+◌, ◌<◌, ◌≤◌, [], ◌++◌, ◌∙◌, ℕ, zero, suc, Bool, true, false, not, List}
 use Rattle.std.proofs.Common.{Option, Some, None, refl, sym, ap, subst, arith, inl, inr}
 use Rattle.std.specs.Prelude.{if◌then◌else◌, is_some, ℤ}
 use Rattle.std.specs.Option.{option_map_or}
@@ -16,7 +16,6 @@ use Rattle.flat_model.specs.declared.events.FaultKind.TheVariants.{Illegal}
 use Rattle.flat_model.specs.declared.instructions.Ins.{Ins}
 use Rattle.flat_model.specs.declared.instructions.Ins.TheVariants as ins
 use Rattle.flat_model.specs.declared.journals.Item.{Item}
-use Rattle.flat_model.specs.declared.journals.Item.TheVariants.{Step}
 use Rattle.flat_model.specs.Effect.{effect_of, effect_of_word, touches_shared, word_touches_shared}
 use Rattle.flat_model.specs.Image.{word_at}
 use Rattle.flat_model.specs.Instruction.{decoded}
@@ -32,8 +31,8 @@ use Rattle.run_rules.specs.Guest.{Run}
 use Rattle.run_rules.specs.Laws.{MayTurn}
 use Rattle.run_rules.specs.Legal.{runs}
 use Rattle.run_rules.proofs.Turns.{turns_are_legal}
-use Rattle.run_order.specs.InOrder.{Task, task_run}
-use Rattle.kept_order.specs.Going.{TurnsBegin, TurnsGoOn, PrivateTurnsGoOn, HartsRun, IsNextOfRow, RowsGoOn}
+use Rattle.run_order.specs.InOrder.{Task}
+use Rattle.kept_order.specs.Going.{TurnsBegin, TurnsGoOn, PrivateTurnsGoOn, HartsRun, RowsGoOn}
 
 -- Turns.
 

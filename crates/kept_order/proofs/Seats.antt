@@ -6,7 +6,6 @@ use Rattle.std.specs.List.{filter_map, cons_option, range_with_len}
 use Rattle.std.proofs.lemmas.Bool.{cases_Bool, false≢true}
 use Rattle.std.proofs.lemmas.Bool.Decides.{nat_tests}
 use Rattle.std.proofs.lemmas.List.{get_or-set_other}
-use Rattle.flat_model.specs.declared.plugins.Ask.TheVariants.{Stay}
 use Rattle.flat_model.specs.declared.plugins.SetSpec.{SetSpec}
 use Rattle.flat_model.specs.declared.journals.Item.{Item}
 use Rattle.flat_model.specs.declared.journals.Item.TheVariants.{Step, Ordered, GaveBack, Left, Told, Got, Took}
@@ -20,13 +19,13 @@ use Rattle.run_rules.specs.Guest.{Run, plugins}
 use Rattle.run_rules.specs.Heard.{is_live, waiting}
 use Rattle.run_rules.specs.Laws.{AreOfOthers, KeepsSet}
 use Rattle.run_rules.specs.Legal.{Legal, is_there}
-use Rattle.run_rules.specs.Places.{Place, Waiting, IsStateLog, place_of, is_with_hart, registers, fits, owed_by}
+use Rattle.run_rules.specs.Places.{Waiting, IsStateLog, place_of, is_with_hart, registers, fits, owed_by}
 use Rattle.run_rules.proofs.Fitting.{beyond, places_fit}
 use Rattle.run_rules.proofs.Growing.{item_grows}
 use Rattle.run_rules.proofs.Keeping.{gone_none, others_leave_sets_alone}
 use Rattle.run_order.specs.InOrder.{Task, task_run}
 use Rattle.run_order.proofs.Staying.{hart_stays, sets_stay}
-use Rattle.kept_order.specs.Going.{StaysSeated, OthersLeaveRunnersAlone, LeftIsLeft}
+use Rattle.kept_order.specs.Going.{OthersLeaveRunnersAlone, LeftIsLeft}
 use Rattle.kept_order.specs.Hearing.{spec_at, specs_for}
 use Rattle.kept_order.proofs.Arrivals.{last_spec}
 use Rattle.kept_order.proofs.Asked.{asked_by, state_at, registered_by, item_live, waits_live, none_waits}
