@@ -24,7 +24,7 @@ use Rattle.run_rules.specs.Guest.{Run, plugins}
 use Rattle.run_rules.specs.Due.{allowed}
 use Rattle.run_rules.specs.Heard.{progress, opening_progress, is_live, waiting}
 use Rattle.run_rules.specs.Laws.{steps_by}
-use Rattle.run_rules.specs.Legal.{Legal, Rule, asks_nothing, is_there, is_finished, owes_any}
+use Rattle.run_rules.specs.Legal.{Legal, Rule, asks_nothing, is_there, is_finished, owes_any, passes_nothing_by}
 use Rattle.run_rules.specs.Places.{Place, Nowhere, Waiting, WithHart, Parked, Out, place_of, is_waiting, is_with_hart, got}
 use Rattle.run_rules.specs.Places.{IsStateLog, registers, given_back, left, taken}
 use Rattle.run_rules.proofs.Fitting.{append_other, beyond, complete, installed_from, left_at, number_is, other_place, register_admitted}
@@ -87,7 +87,8 @@ order_live r (orders.Uninstall number) plugin one is off live =
     (λ is_so. absurd (false≢true is_so)) live
 
 pub item_live : (run : Run) (plugin : ℕ) (x : Item) (past : List Item) → 1 ≤ plugin → Rule run x past
-    → registered_by (plugins run past) x plugin ≡ false → is_live (state_at run plugin (x ∷ past)) ≡ true → is_live (state_at run plugin past) ≡ true
+    → registered_by (plugins run past) x plugin ≡ false → is_live (state_at run plugin (x ∷ past)) ≡ true
+    → is_live (state_at run plugin past) ≡ true
 unfolding registry
 item_live run plugin (Step hart) past one rule off live = live
 item_live run plugin (Ordered origin order) past one rule off live = order_live (plugins run past) order plugin one rule.allowed off live
@@ -140,7 +141,8 @@ waits_live run plugin h past one live =
     ap (λ (b : Bool). if b then asked_by run plugin h past (sets_of r plugin) else Stay)
     (both_true (live_installed r plugin one live) live)
 
-pub waits_dead : (run : Run) (plugin h : ℕ) (past : List Item) → is_live (state_at run plugin past) ≡ false → waiting run plugin h past ≡ Stay
+pub waits_dead : (run : Run) (plugin h : ℕ) (past : List Item) → is_live (state_at run plugin past) ≡ false
+    → waiting run plugin h past ≡ Stay
 waits_dead run plugin h past dead =
     let r = plugins run past in
     ap (λ (b : Bool). if b then asked_by run plugin h past (sets_of r plugin) else Stay)
@@ -284,9 +286,10 @@ none_waits run plugin h (Left k ∷ past) one low legal state off =
     (elim (cases_Bool (k == h)) [
       | inl is ↦
           let e : k ≡ h = number_is k h is in
-          let r = plugins run past in
-          let rest = rest_true (not (owes_any run k past)) _ (rest_true (is_finished run k past) _ (rest_true (is_there run k past) _ legal.1)) in
-          no_asks run plugin h past one (subst (λ (j : ℕ). asks_nothing run j past ≡ true) e (first_true _ _ rest))
+          let after : (not (owes_any run k past) && (asks_nothing run k past && passes_nothing_by run past)) ≡ true =
+          rest_true (is_finished run k past) _ (rest_true (is_there run k past) _ legal.1) in
+          let asks : asks_nothing run k past ≡ true = first_true _ _ (rest_true (not (owes_any run k past)) _ after) in
+          no_asks run plugin h past one (subst (λ (j : ℕ). asks_nothing run j past ≡ true) e asks)
       | inr other ↦ none_waits run plugin h past one low legal.0 state.0 (stays_off (k == h) left (place_of run plugin h past) other off)
     ])
 none_waits run plugin h (Told party q ∷ past) one low legal state off =

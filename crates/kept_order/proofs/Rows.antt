@@ -46,7 +46,8 @@ turns_begin run h past legal there owes asks none = record {
   runs = λ k low. absurd (omega (arith, low));
 }
 
-one_longer : (run : Run) (h k : ℕ) (past : List Item) → MayTurn run h k past → runs run h (steps h k past) ≡ true → MayTurn run h (k + 1) past
+one_longer : (run : Run) (h k : ℕ) (past : List Item) → MayTurn run h k past → runs run h (steps h k past) ≡ true
+    → MayTurn run h (k + 1) past
 one_longer run h k past may goes = record {
   legal = may.legal;
   is_there = may.is_there;
@@ -108,7 +109,8 @@ lone_word spans harts h hart shared None lone = refl
 lone_word spans harts h hart shared (Some word) lone = lone_decoded spans harts h hart shared (decoded word) lone
 
 -- and no instruction parks its hart
-done_awake : (limit : ℕ) (hart : HartState) (present ends : Bool) (done : Done) → (after_done limit hart present ends done).parked ≡ hart.parked
+done_awake : (limit : ℕ) (hart : HartState) (present ends : Bool) (done : Done)
+    → (after_done limit hart present ends done).parked ≡ hart.parked
 done_awake limit hart present ends (Goes rd value target) = refl
 done_awake limit hart present ends (Fails kind) = refl
 done_awake limit hart present ends (Leaves ending) = refl

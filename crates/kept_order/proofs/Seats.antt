@@ -56,7 +56,8 @@ kept_true (b ∷ bs) zero (suc h) is = is
 kept_true (b ∷ bs) (suc k) zero is = is
 kept_true (b ∷ bs) (suc k) (suc h) is = kept_true bs k h is
 
-left_still : (run : Run) (h : ℕ) (x : Item) (past : List Item) → has_left (plugins run past) h ≡ true → has_left (plugins run (x ∷ past)) h ≡ true
+left_still : (run : Run) (h : ℕ) (x : Item) (past : List Item) → has_left (plugins run past) h ≡ true
+    → has_left (plugins run (x ∷ past)) h ≡ true
 unfolding registry
 left_still run h (Step hart) past is = is
 left_still run h (Ordered origin (Install spec)) past is = is
@@ -108,7 +109,8 @@ either_same false false x y same is = refl
 either_same true false x y same is = absurd (false≢true (sym same))
 either_same false true x y same is = absurd (false≢true same)
 
-spec_same : (run : Run) (plugin h : ℕ) (past now : List Item) → KeepsSet run plugin h past now → spec_at run h now plugin ≡ spec_at run h past plugin
+spec_same : (run : Run) (plugin h : ℕ) (past now : List Item) → KeepsSet run plugin h past now
+    → spec_at run h now plugin ≡ spec_at run h past plugin
 spec_same run plugin h past now keeps =
     either_same (is_with_hart (place_of run plugin h now)) (is_with_hart (place_of run plugin h past))
     (plugin, last_spec (sets_of (plugins run now) plugin)) (plugin, last_spec (sets_of (plugins run past) plugin)) keeps.there
@@ -154,13 +156,14 @@ specs_same run h more past low others legal state =
     gives_same (spec_at run h now) (spec_at run h past) 1 m
     (λ plugin one. spec_same run plugin h past now (others_leave_sets_alone run plugin h more past one low others legal state))
     ∙ more_give_none (spec_at run h past) 1 n m (never_fewer run more past)
-    (λ plugin far. none_beyond run plugin h past (omega (arith, far)) low (legal_before run more past legal) (state_before run more past state))
+    (λ plugin far. none_beyond run plugin h past (omega (arith, far)) low (legal_before run more past legal)
+    (state_before run more past state))
 
 -- What plug-ins wait for.
 
 -- an item that leaves a set with a hart didn't register it
-not_registered : (run : Run) (plugin h : ℕ) (x : Item) (past : List Item) → is_with_hart (place_of run plugin h (x ∷ past)) ≡ true
-    → registered_by (plugins run past) x plugin ≡ false
+not_registered : (run : Run) (plugin h : ℕ) (x : Item) (past : List Item)
+    → is_with_hart (place_of run plugin h (x ∷ past)) ≡ true → registered_by (plugins run past) x plugin ≡ false
 unfolding place_of
 not_registered run plugin h (Step hart) past with = refl
 not_registered run plugin h (Ordered origin order) past with =
