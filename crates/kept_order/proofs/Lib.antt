@@ -20,3 +20,6 @@ pub mod Tables
 pub mod Orders
 pub mod Backs
 pub mod Gots
+pub mod Rows
+pub mod Asked
+pub mod Seats

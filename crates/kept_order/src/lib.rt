@@ -5,6 +5,7 @@
 pub mod arriving;
 pub mod closing;
 pub mod fitting;
+pub mod going;
 pub mod hearing;
 pub mod leaving;
 pub mod opening;
