@@ -1,5 +1,13 @@
 pub mod Placing
+pub mod Commits
 pub mod Filters
+pub mod Rooms
+pub mod Rows
 pub mod Shown
 pub mod WaitingSets
 pub mod Gathering
+pub mod Parking
+pub mod Shelved
+pub mod Departing
+pub mod Mapped
+pub mod GivingBack

@@ -10,6 +10,7 @@ mod attaching;
 mod committing;
 mod leaving;
 mod reading;
+mod returning;
 mod specs;
 mod states;
 mod tables;

@@ -3,9 +3,12 @@
 #![tactic(auto)]
 
 pub mod arriving;
+pub mod closing;
 pub mod fitting;
 pub mod hearing;
 pub mod leaving;
 pub mod opening;
+pub mod ordering;
+pub mod returning;
 pub mod taking;
 pub mod turning;
