@@ -1,5 +1,6 @@
 -- Sets that a hart takes, one after the other.
-use Rattle.std.proofs.Common.{◌≡◌, ◌==◌, ◌+◌, ◌≤◌, ◌<◌, ◌∷◌, [], ◌++◌, ◌∙◌, ℕ, zero, suc, true, false, List, All, inl, inr, length, refl, sym, ap, subst, arith}
+use Rattle.std.proofs.Common.{◌≡◌, ◌==◌, ◌+◌, ◌≤◌, ◌∷◌, [], ◌∙◌, ℕ, suc, true, false, List, All, inl}
+use Rattle.std.proofs.Common.{inr, length, refl, sym, ap, subst, arith}
 use Rattle.std.proofs.lemmas.Bool.{cases_Bool}
 use Rattle.std.proofs.lemmas.Bool.Decides.{nat_tests}
 use Rattle.flat_model.specs.declared.plugins.SetSpec.{SetSpec}
@@ -10,19 +11,18 @@ use Rattle.baton_gate.specs.Logs.{GoesOn}
 use Rattle.baton_gate.proofs.LogLemmas.{goes_once, goes_on, goes_same}
 use Rattle.run_rules.specs.Legal.{is_there, owes_any}
 use Rattle.run_rules.specs.Places.{is_with_hart, may_get, takes_all}
-use Rattle.run_rules.specs.Guest.{plugins}
 use Rattle.run_order.specs.Sets.{sets_for}
 use Rattle.run_order.specs.InOrder.{Task, task_run}
 use Rattle.kept_order.specs.Hearing.{specs_for}
 use Rattle.kept_order.specs.Arriving.{with_spec}
-use Rattle.kept_order.specs.Taking.{AreGots, StillHolds}
-use Rattle.kept_order.proofs.Gots.{gots_keep_harts_going}
+use Rattle.kept_order.specs.Taking.{AreGots, LittleIsChanged, StillHolds}
+use Rattle.kept_order.proofs.Gots.{gots_change_little, gots_keep_harts_going}
 use Rattle.kept_order.proofs.Takes.{taken_is_all}
 use Rattle.host_state.specs.State.{StateValue, IsSound}
 use Rattle.host_state.specs.Taking.{IsGotBy, IsTakenOut, HasAttached}
 use Rattle.host_state.proofs.WaitingSets.{own_none, still_none}
 
--- A log that goes on by takes.
+-- A log that goes on by a hart's takes.
 
 are_gots : (h : ℕ) (more : List Item) → All (IsGotBy h) more → AreGots more
 are_gots h [] each = tt
@@ -33,6 +33,10 @@ are_gots h (Left hart ∷ more) each = absurd (each 0 (Left hart) (omega arith))
 are_gots h (Told party number ∷ more) each = absurd (each 0 (Told party number) (omega arith))
 are_gots h (Got hart number ∷ more) each = (tt, are_gots h more (λ k d low. each (suc k) d (omega (arith, low))))
 are_gots h (Took party number ∷ more) each = absurd (each 0 (Took party number) (omega arith))
+
+pub little_changed : (t : Task) (h : ℕ) (past now : List Item) → GoesOn (IsGotBy h) past now → LittleIsChanged t past now
+little_changed t h past now gots =
+    subst (LittleIsChanged t past) (sym gots.begins) (gots_change_little t gots.more past (are_gots h gots.more gots.later))
 
 pub holds_still : (t : Task) (h : ℕ) (past now : List Item) → GoesOn (IsGotBy h) past now → StillHolds t h past now
 holds_still t h past now gots =
@@ -48,7 +52,8 @@ module _ (h plugin : ℕ) (old new : StateValue) (set : Attachment) (spec : SetS
       → sets ≡ sets_for is_with_hart (task_run old.task) h old.past → specs ≡ specs_for (task_run old.task) h old.past
       → HasAttached h old new (with_set set sets) (with_spec (number, spec) specs)
   one_attached number sets specs is these filters = record {
-    gots = goes_same (IsGotBy h) old.past (Got h plugin ∷ old.past) new.past (goes_once (IsGotBy h) old.past (Got h plugin) refl) (sym taken.past);
+    gots = goes_same (IsGotBy h) old.past (Got h plugin ∷ old.past) new.past (goes_once (IsGotBy h) old.past (Got h plugin) refl)
+        (sym taken.past);
     rest = taken.rest;
     attached = ap (with_set set) these ∙ sym taken.sets ∙ ap (λ (t : Task). sets_for is_with_hart (task_run t) h new.past) (sym same_task);
     filters = ap (with_spec (number, spec)) filters
@@ -95,7 +100,8 @@ module _ (h : ℕ) (old new : StateValue) (sets : List Attachment) (specs : List
   same_count = ap (λ (s : StateValue). length s.registry.table.plugins) has.rest
 
 -- all that waited was taken
-pub all_taken : (s : StateValue) (h : ℕ) → IsSound s → is_there (task_run s.task) h s.past ≡ true → owes_any (task_run s.task) h s.past ≡ false
+pub all_taken : (s : StateValue) (h : ℕ) → IsSound s → is_there (task_run s.task) h s.past ≡ true
+    → owes_any (task_run s.task) h s.past ≡ false
     → ((p : ℕ) → 1 ≤ p → p ≤ length s.registry.table.plugins → may_get (task_run s.task) h p s.past ≡ false)
     → takes_all (task_run s.task) h s.past ≡ true
 all_taken s h sound there owes none =

@@ -1,5 +1,5 @@
 -- Tables whose places are shown as plain data.
-use Rattle.std.proofs.Common.{◌≡◌, ◌<◌, ◌∙◌, ℕ, zero, suc, List, [], ◌∷◌, Option, None, length, map, refl, sym, ap}
+use Rattle.std.proofs.Common.{◌≡◌, ◌∙◌, ℕ, zero, suc, List, [], ◌∷◌, Option, None, length, map, refl, sym, ap}
 use Rattle.std.specs.Prelude.{Vec, slice_set, slice_index_or, option_map}
 use Rattle.std.specs.Global.{Global}
 use Rattle.std.proofs.lemmas.List.{map-set, length-map, set-get_or}
@@ -30,7 +30,8 @@ module _ {A B : Type 0} (f : A → B) where
   shown_row_at rows i =
       ap (λ (cells : List (List (Option B))). slice_index_or cells i []) (shown_by rows) ∙ map_at shown_row (rows_of rows) i []
 
-  pub shown_width : (rows : List (Vec (Option A) Global)) (i : ℕ) → length (slice_index_or (shown rows) i []) ≡ length (row_at (rows_of rows) i)
+  pub shown_width : (rows : List (Vec (Option A) Global)) (i : ℕ)
+      → length (slice_index_or (shown rows) i []) ≡ length (row_at (rows_of rows) i)
   shown_width rows i = ap length (shown_row_at rows i) ∙ length-map (row_at (rows_of rows) i) (option_map f)
 
   pub shown_at : (rows : List (Vec (Option A) Global)) (i j : ℕ)
@@ -47,8 +48,10 @@ module _ {A B : Type 0} (f : A → B) where
       shown_by now ∙ ap (map shown_row) is
       ∙ map-set shown_row (rows_of rows) i (slice_set row j x)
       ∙ ap (slice_set (map shown_row (rows_of rows)) i) (map-set (option_map f) row j x)
-      ∙ ap (λ (r : List (Option B)). slice_set (map shown_row (rows_of rows)) i (slice_set r j (option_map f x))) (sym (shown_row_at rows i))
-      ∙ ap (λ (cells : List (List (Option B))). slice_set cells i (slice_set (slice_index_or (shown rows) i []) j (option_map f x))) (sym (shown_by rows))
+      ∙ ap (λ (r : List (Option B)). slice_set (map shown_row (rows_of rows)) i (slice_set r j (option_map f x)))
+      (sym (shown_row_at rows i))
+      ∙ ap (λ (cells : List (List (Option B))). slice_set cells i (slice_set (slice_index_or (shown rows) i []) j (option_map f x)))
+      (sym (shown_by rows))
 
 -- a table in which nothing is taken stays as it is
 pub same_place : {A : Type 0} (cells : List (List (Option A))) (i j : ℕ) → slice_index_or (slice_index_or cells i []) j None ≡ None

@@ -1,6 +1,6 @@
 -- Sets that wait in the state for a hart.
-use Rattle.std.proofs.Common.{◌≡◌, ◌≢◌, ◌==◌, ◌&&◌, ◌+◌, ◌-◌, ◌<◌, ◌≤◌, ◌∷◌, [], ◌∙◌, ℕ, zero, suc, Bool, true, false, List, Option, Some, None}
-use Rattle.std.proofs.Common.{All, inl, inr, length, refl, sym, ap, subst, arith}
+use Rattle.std.proofs.Common.{◌≡◌, ◌≢◌, ◌==◌, ◌&&◌, ◌+◌, ◌-◌, ◌<◌, ◌≤◌, ◌∷◌, [], ◌∙◌, ℕ, zero, suc, Bool, true, false, List}
+use Rattle.std.proofs.Common.{Option, Some, None, All, inl, inr, length, refl, sym, ap, subst, arith}
 use Rattle.std.specs.Prelude.{if◌then◌else◌, slice_index_or, map, option_map, Vec}
 use Rattle.std.specs.Global.{Global}
 use Rattle.std.specs.List.{range_with_len}
@@ -21,7 +21,7 @@ use Rattle.run_rules.specs.Legal.{is_there}
 use Rattle.run_rules.specs.Places.{Place, Nowhere, Waiting, WithHart, Parked, Out, place_of, is_waiting, is_with_hart, got, may_get}
 use Rattle.run_order.specs.Sets.{attachment_of, placed_at, sets_for}
 use Rattle.run_order.specs.Laws.{with_place}
-use Rattle.run_order.specs.InOrder.{InOrder, task_run}
+use Rattle.run_order.specs.InOrder.{task_run}
 use Rattle.run_rules.proofs.Turns.{first_true, rest_true}
 use Rattle.run_order.proofs.Taking.{own_place}
 use Rattle.run_order.proofs.Taking.{waiting_is as waits_is}
@@ -46,7 +46,7 @@ some_there : {A : Type 0} (b : Bool) (x y : A) → (if b then Some x else None) 
 some_there true x y some = refl
 some_there false x y some = absurd cc
 
-pub same_there : {A : Type 0} (b : Bool) (x y : A) → (if b then Some x else None) ≡ Some y → y ≡ x
+same_there : {A : Type 0} (b : Bool) (x y : A) → (if b then Some x else None) ≡ Some y → y ≡ x
 same_there true x y some = cc
 same_there false x y some = absurd cc
 
@@ -60,28 +60,38 @@ module _ (s : StateValue) (sound : IsSound s) (h plugin : ℕ) (least : 1 ≤ pl
   installed : plugin - 1 < length (plugins (task_run s.task) s.past).plugins
   installed = omega (arith, least, most, ap (λ (r : Plugins). length r.plugins) sound.order.plugins)
 
-  pub row_is_there : plugin - 1 < length s.waiting
+  row_is_there : plugin - 1 < length s.waiting
   row_is_there =
-      omega (arith, installed, ap length sound.order.waiting,
-      length-map-range_with_len (λ p. map (placed_at is_waiting (task_run s.task) s.past p) (range_with_len 0 s.task.machine.harts)) 1
-      (length (plugins (task_run s.task) s.past).plugins))
+      omega (
+        arith,
+        installed,
+        ap length sound.order.waiting,
+        length-map-range_with_len (λ p. map (placed_at is_waiting (task_run s.task) s.past p) (range_with_len 0 s.task.machine.harts)) 1
+            (length (plugins (task_run s.task) s.past).plugins),
+      )
 
-  waits_at : slice_index_or s.waiting (plugin - 1) [] ≡ map (placed_at is_waiting (task_run s.task) s.past plugin) (range_with_len 0 s.task.machine.harts)
+  waits_at : slice_index_or s.waiting (plugin - 1) []
+      ≡ map (placed_at is_waiting (task_run s.task) s.past plugin) (range_with_len 0 s.task.machine.harts)
   waits_at =
       ap (λ (rows : List (List (Option Attachment))). slice_index_or rows (plugin - 1) []) sound.order.waiting
       ∙ get_or-map-range_with_len (λ p. map (placed_at is_waiting (task_run s.task) s.past p) (range_with_len 0 s.task.machine.harts)) 1
       (length (plugins (task_run s.task) s.past).plugins) (plugin - 1) plugin [] installed (omega (arith, least))
 
-  pub place_is_there : h < length (slice_index_or s.waiting (plugin - 1) [])
+  place_is_there : h < length (slice_index_or s.waiting (plugin - 1) [])
   place_is_there =
-      omega (arith, low, ap length waits_at, length-map-range_with_len (placed_at is_waiting (task_run s.task) s.past plugin) 0 s.task.machine.harts)
+      omega (
+        arith,
+        low,
+        ap length waits_at,
+        length-map-range_with_len (placed_at is_waiting (task_run s.task) s.past plugin) 0 s.task.machine.harts,
+      )
 
-  pub waiting_is : slice_index_or (slice_index_or s.waiting (plugin - 1) []) h None ≡ placed_at is_waiting (task_run s.task) s.past plugin h
+  waiting_is : slice_index_or (slice_index_or s.waiting (plugin - 1) []) h None ≡ placed_at is_waiting (task_run s.task) s.past plugin h
   waiting_is =
       ap (λ (row : List (Option Attachment)). slice_index_or row h None) waits_at
       ∙ get_or-map-range_with_len (placed_at is_waiting (task_run s.task) s.past plugin) 0 s.task.machine.harts h h None low (omega arith)
 
-  pub arriving_is : slice_index_or (slice_index_or s.arriving (plugin - 1) []) h None ≡ arrival_at (task_run s.task) s.past plugin h
+  arriving_is : slice_index_or (slice_index_or s.arriving (plugin - 1) []) h None ≡ arrival_at (task_run s.task) s.past plugin h
   arriving_is =
       ap (λ (rows : List (List (Option SetSpec))). slice_index_or (slice_index_or rows (plugin - 1) []) h None) sound.arriving
       ∙ ap (λ (row : List (Option SetSpec)). slice_index_or row h None)
@@ -90,7 +100,7 @@ module _ (s : StateValue) (sound : IsSound s) (h plugin : ℕ) (least : 1 ≤ pl
       ∙ get_or-map-range_with_len (arrival_at (task_run s.task) s.past plugin) 0 s.task.machine.harts h h None low (omega arith)
 
   -- nothing waits that the hart may have
-  pub none_waits : placed_at is_waiting (task_run s.task) s.past plugin h ≡ None → may_get (task_run s.task) h plugin s.past ≡ false
+  none_waits : placed_at is_waiting (task_run s.task) s.past plugin h ≡ None → may_get (task_run s.task) h plugin s.past ≡ false
   none_waits none =
       let waits : is_waiting (place_of (task_run s.task) plugin h s.past) ≡ false =
       none_there (is_waiting (place_of (task_run s.task) plugin h s.past)) (attachment_of (task_run s.task) plugin h s.past) none in
@@ -99,7 +109,7 @@ module _ (s : StateValue) (sound : IsSound s) (h plugin : ℕ) (least : 1 ≤ pl
       (and_right live (is_waiting (place_of (task_run s.task) plugin h s.past)) waits)
 
   -- the hart may have what waits
-  pub may_take : (a : Attachment) → state_of s.registry.table plugin ≡ Some Live
+  may_take : (a : Attachment) → state_of s.registry.table plugin ≡ Some Live
       → placed_at is_waiting (task_run s.task) s.past plugin h ≡ Some a → may_get (task_run s.task) h plugin s.past ≡ true
   may_take a live some =
       let state : Live ≡ (plugin_of s.registry.table plugin).state =
@@ -110,10 +120,11 @@ module _ (s : StateValue) (sound : IsSound s) (h plugin : ℕ) (least : 1 ≤ pl
       (some_there (is_waiting (place_of (task_run s.task) plugin h s.past)) (attachment_of (task_run s.task) plugin h s.past) a some))
 
 -- The state without the set is in order.
-pub taken_out : (s : StateValue) (h plugin : ℕ) (past : List Item) (waiting : List (List (Option Attachment)))
+taken_out : (s : StateValue) (h plugin : ℕ) (past : List Item) (waiting : List (List (Option Attachment)))
     (arriving : List (List (Option SetSpec))) → IsSound s → 1 ≤ plugin → plugin ≤ length s.registry.table.plugins
     → may_get (task_run s.task) h plugin s.past ≡ true
-    → past ≡ Got h plugin ∷ s.past → waiting ≡ with_place s.waiting (plugin - 1) h None → arriving ≡ with_place s.arriving (plugin - 1) h None
+    → past ≡ Got h plugin ∷ s.past → waiting ≡ with_place s.waiting (plugin - 1) h None
+    → arriving ≡ with_place s.arriving (plugin - 1) h None
     → IsSound (record s { past = past; waiting = waiting; arriving = arriving })
 taken_out s h plugin past waiting arriving sound least most may is gone went =
     let run = task_run s.task in
@@ -121,7 +132,8 @@ taken_out s h plugin past waiting arriving sound least most may is gone went =
     let there : plugin ≤ length (plugins run s.past).plugins =
     subst (λ (r : Plugins). plugin ≤ length r.plugins) sound.order.plugins most in
     let arrived : HasArrived run h plugin s.past =
-    takes_arrive run h plugin s.past sound.order.legal sound.order.state_log least there (there_low run h s.past (first_true _ _ may)) may in
+    takes_arrive run h plugin s.past sound.order.legal sound.order.state_log least there
+    (there_low run h s.past (first_true _ _ may)) may in
     let got : HasGot h plugin (stored_of s) (stored_of now) = record {
       past = is;
       entries = refl;
@@ -147,7 +159,7 @@ taken_out s h plugin past waiting arriving sound least most may is gone went =
 
 -- The rows of a state, at whose places sets stand with their filters.
 
-pub record IsStanding (s : StateValue) (h plugin : ℕ) (set : Attachment) (spec : SetSpec) : Type 0 where
+record IsStanding (s : StateValue) (h plugin : ℕ) (set : Attachment) (spec : SetSpec) : Type 0 where
   pub may : may_get (task_run s.task) h plugin s.past ≡ true
   pub attached : set ≡ attachment_of (task_run s.task) plugin h s.past
   pub filters : spec ≡ set_at (task_run s.task) plugin (last_set (plugins (task_run s.task) s.past) plugin) s.past
@@ -158,13 +170,17 @@ module _ {A : Type 0} (set_in : A → Attachment) (spec_in : A → SetSpec) (s :
   abbrev here : Option A
   here = slice_index_or (row_at (rows_of rows) (plugin - 1)) h None
 
-  pub row_below : plugin - 1 < length rows
+  row_below : plugin - 1 < length rows
   row_below = omega (arith, row_is_there s sound h plugin least most there, ap length sets, shown_rows set_in rows)
 
-  pub place_below : h < length (row_at (rows_of rows) (plugin - 1))
+  place_below : h < length (row_at (rows_of rows) (plugin - 1))
   place_below =
-      omega (arith, place_is_there s sound h plugin least most there,
-      ap (λ (cells : List (List (Option Attachment))). length (slice_index_or cells (plugin - 1) [])) sets, shown_width set_in rows (plugin - 1))
+      omega (
+        arith,
+        place_is_there s sound h plugin least most there,
+        ap (λ (cells : List (List (Option Attachment))). length (slice_index_or cells (plugin - 1) [])) sets,
+        shown_width set_in rows (plugin - 1),
+      )
 
   set_here : option_map set_in here ≡ placed_at is_waiting (task_run s.task) s.past plugin h
   set_here =
@@ -178,10 +194,10 @@ module _ {A : Type 0} (set_in : A → Attachment) (spec_in : A → SetSpec) (s :
       ∙ ap (λ (cells : List (List (Option SetSpec))). slice_index_or (slice_index_or cells (plugin - 1) []) h None) (sym specs)
       ∙ arriving_is s sound h plugin least most there
 
-  pub none_stands : here ≡ None → may_get (task_run s.task) h plugin s.past ≡ false
+  none_stands : here ≡ None → may_get (task_run s.task) h plugin s.past ≡ false
   none_stands none = none_waits s sound h plugin least most there (sym set_here ∙ ap (option_map set_in) none)
 
-  pub one_stands : (a : A) → here ≡ Some a → state_of s.registry.table plugin ≡ Some Live → IsStanding s h plugin (set_in a) (spec_in a)
+  one_stands : (a : A) → here ≡ Some a → state_of s.registry.table plugin ≡ Some Live → IsStanding s h plugin (set_in a) (spec_in a)
   one_stands a some live =
       let waits = is_waiting (place_of (task_run s.task) plugin h s.past) in
       let set : placed_at is_waiting (task_run s.task) s.past plugin h ≡ Some (set_in a) = sym set_here ∙ ap (option_map set_in) some in
@@ -194,35 +210,31 @@ module _ {A : Type 0} (set_in : A → Attachment) (spec_in : A → SetSpec) (s :
       }
 
   module _ (now : List (Vec (Option A) Global)) (left : rows_of now ≡ with_place (rows_of rows) (plugin - 1) h None) where
-    pub sets_left : shown set_in now ≡ with_place s.waiting (plugin - 1) h None
+    sets_left : shown set_in now ≡ with_place s.waiting (plugin - 1) h None
     sets_left =
         shown_with set_in rows now (plugin - 1) h None left
         ∙ ap (λ (cells : List (List (Option Attachment))). with_place cells (plugin - 1) h None) (sym sets)
 
-    pub specs_left : shown spec_in now ≡ with_place s.arriving (plugin - 1) h None
+    specs_left : shown spec_in now ≡ with_place s.arriving (plugin - 1) h None
     specs_left =
         shown_with spec_in rows now (plugin - 1) h None left
         ∙ ap (λ (cells : List (List (Option SetSpec))). with_place cells (plugin - 1) h None) (sym specs)
 
-    pub rows_stay : here ≡ None → rows_of now ≡ rows_of rows
+    rows_stay : here ≡ None → rows_of now ≡ rows_of rows
     rows_stay none = left ∙ same_place (rows_of rows) (plugin - 1) h none
 
-    pub sets_stay : here ≡ None → shown set_in now ≡ s.waiting
+    sets_stay : here ≡ None → shown set_in now ≡ s.waiting
     sets_stay none = shown_by set_in now ∙ ap (map (map (option_map set_in))) (rows_stay none) ∙ sym (shown_by set_in rows) ∙ sym sets
 
-    pub specs_stay : here ≡ None → shown spec_in now ≡ s.arriving
+    specs_stay : here ≡ None → shown spec_in now ≡ s.arriving
     specs_stay none = shown_by spec_in now ∙ ap (map (map (option_map spec_in))) (rows_stay none) ∙ sym (shown_by spec_in rows) ∙ sym specs
 
 -- a state with the same tables
-pub same_state : (s : StateValue) (waiting : List (List (Option Attachment))) (arriving : List (List (Option SetSpec)))
+same_state : (s : StateValue) (waiting : List (List (Option Attachment))) (arriving : List (List (Option SetSpec)))
     → waiting ≡ s.waiting → arriving ≡ s.arriving → record s { waiting = waiting; arriving = arriving } ≡ s
 same_state s waiting arriving sets specs =
     ap (λ (w : List (List (Option Attachment))). record s { waiting = w; arriving = arriving }) sets
     ∙ ap (λ (a : List (List (Option SetSpec))). record s { arriving = a }) specs
-
-pub same_sound : (s : StateValue) (waiting : List (List (Option Attachment))) (arriving : List (List (Option SetSpec)))
-    → IsSound s → waiting ≡ s.waiting → arriving ≡ s.arriving → IsSound (record s { waiting = waiting; arriving = arriving })
-same_sound s waiting arriving sound sets specs = subst IsSound (sym (same_state s waiting arriving sets specs)) sound
 
 -- no set of a plug-in is with a hart for which its set waits
 none_of : {A : Type 0} (number : A → ℕ) (test : ℕ → Bool) (made : ℕ → A) (q a n : ℕ) → AreNumbered number made → test q ≡ false
@@ -231,12 +243,12 @@ none_of number test made q a zero numbered none = All-nil (λ x. number x ≢ q)
 none_of number test made q a (suc n) numbered none =
     elim (cases_Bool (test a)) as (λ r. All (λ x. number x ≢ q) (all_given test made a (suc n))) [
       | inl is ↦ rw is (All-cons (λ x. number x ≢ q) (made a) (all_given test made (a + 1) n)
-      (λ e. false≢true (sym none ∙ ap test (sym e ∙ numbered a) ∙ is)) (none_of number test made q (a + 1) n numbered none))
+          (λ e. false≢true (sym none ∙ ap test (sym e ∙ numbered a) ∙ is)) (none_of number test made q (a + 1) n numbered none))
       | inr off ↦ rw off (none_of number test made q (a + 1) n numbered none)
     ]
 
 -- what becomes of a state of which a set was taken
-pub taken_of : (h plugin : ℕ) (s v now : StateValue) (set : Attachment) (spec : SetSpec) → IsSound s → 1 ≤ plugin
+taken_of : (h plugin : ℕ) (s v now : StateValue) (set : Attachment) (spec : SetSpec) → IsSound s → 1 ≤ plugin
     → plugin ≤ length s.registry.table.plugins → IsStanding s h plugin set spec → s ≡ v → now.past ≡ Got h plugin ∷ s.past
     → now ≡ record s { past = now.past; waiting = now.waiting; arriving = now.arriving } → IsTakenOut h plugin v now set spec
 taken_of h plugin s v now set spec sound least most stands is past rest =
@@ -244,7 +256,8 @@ taken_of h plugin s v now set spec sound least most stands is past rest =
     let there : plugin ≤ length (plugins run s.past).plugins =
     subst (λ (r : Plugins). plugin ≤ length r.plugins) sound.order.plugins most in
     let arrived : HasArrived run h plugin s.past =
-    takes_arrive run h plugin s.past sound.order.legal sound.order.state_log least there (there_low run h s.past (first_true _ _ stands.may)) stands.may in
+    takes_arrive run h plugin s.past sound.order.legal sound.order.state_log least there
+    (there_low run h s.past (first_true _ _ stands.may)) stands.may in
     let waits : is_waiting (place_of run plugin h s.past) ≡ true =
     rest_true (is_live (plugin_of (plugins run s.past) plugin).state) _ (rest_true (is_there run h s.past) _ stands.may) in
     let away : is_with_hart (place_of run plugin h s.past) ≡ false = ap is_with_hart (waits_is (place_of run plugin h s.past) waits) in
@@ -254,8 +267,8 @@ taken_of h plugin s v now set spec sound least most stands is past rest =
       number = ap (λ (a : Attachment). a.plugin) stands.attached;
       past = past;
       rest = rest;
-      no_set = none_of (λ (a : Attachment). a.plugin) (λ p. is_with_hart (place_of run p h s.past)) (λ p. attachment_of run p h s.past) plugin 1 n
-          (λ p. refl) away;
+      no_set = none_of (λ (a : Attachment). a.plugin) (λ p. is_with_hart (place_of run p h s.past))
+          (λ p. attachment_of run p h s.past) plugin 1 n (λ p. refl) away;
       no_filters = none_of (λ (f : ℕ × SetSpec). f.0) (λ p. is_with_hart (place_of run p h s.past))
           (λ p. (p, set_at run p (last_set (plugins run s.past) p) s.past)) plugin 1 n (λ p. refl) away;
       sets = ap (sets_for is_with_hart run h) past ∙ takes_add_sets run h plugin s.past least stands.may
@@ -263,6 +276,71 @@ taken_of h plugin s v now set spec sound least most stands is past rest =
       specs = ap (specs_for run h) past ∙ arrived.had
           ∙ ap (λ (f : SetSpec). with_spec (plugin, f) (specs_for run h s.past)) (sym stands.filters);
     })
+
+-- What `take_waiting` makes of a state of value v, whose fields have the value s: it looks at a place of the rows, and empties it.
+
+pub record IsLeft (h plugin : ℕ) (v now : StateValue) : Type 0 where
+  pub sound : IsSound now
+  pub none : may_get (task_run v.task) h plugin v.past ≡ false
+  pub same : now ≡ v
+
+pub record IsOut (h plugin : ℕ) (v now : StateValue) (set : Attachment) (spec : SetSpec) : Type 0 where
+  pub sound : IsSound now
+  pub out : IsTakenOut h plugin v now set spec
+
+module _ {A : Type 0} (set_in : A → Attachment) (spec_in : A → SetSpec) (s v : StateValue) (sound : IsSound s) (is : s ≡ v) (h plugin : ℕ)
+    (least : 1 ≤ plugin) (most : plugin ≤ length v.registry.table.plugins) (there : is_there (task_run v.task) h v.past ≡ true)
+    (rows : List (Vec (Option A) Global)) (sets : s.waiting ≡ shown set_in rows) (specs : s.arriving ≡ shown spec_in rows)
+    (held : List (Vec (Option A) Global)) (number place : ℕ)
+    (held_is : held ≡ rows) (number_is : number ≡ plugin) (place_is : place ≡ h) where
+  most_of : plugin ≤ length s.registry.table.plugins
+  most_of = subst (λ (x : StateValue). plugin ≤ length x.registry.table.plugins) (sym is) most
+
+  there_of : is_there (task_run s.task) h s.past ≡ true
+  there_of = subst (λ (x : StateValue). is_there (task_run x.task) h x.past ≡ true) (sym is) there
+
+  pub row_is_below : number - 1 < length held
+  row_is_below = rw (held_is, number_is) (row_below set_in spec_in s sound h plugin least most_of there_of rows sets specs)
+
+  pub place_is_below : place < length (row_at (rows_of held) (number - 1))
+  place_is_below = rw (held_is, number_is, place_is) (place_below set_in spec_in s sound h plugin least most_of there_of rows sets specs)
+
+  module _ (found : Option A) (taken : found ≡ slice_index_or (row_at (rows_of held) (number - 1)) place None)
+      (new now : List (Vec (Option A) Global))
+      (left : rows_of new ≡ with_place (rows_of held) (number - 1) place None) (now_is : now ≡ new) where
+    here_is : (x : Option A) → found ≡ x → slice_index_or (row_at (rows_of rows) (plugin - 1)) h None ≡ x
+    here_is x was = sym (rw (held_is, number_is, place_is) at taken) ∙ was
+
+    left_is : rows_of now ≡ with_place (rows_of rows) (plugin - 1) h None
+    left_is = ap rows_of now_is ∙ (rw (held_is, number_is, place_is) at left)
+
+    pub untaken : found ≡ None → IsLeft h plugin v (record s { waiting = shown set_in now; arriving = shown spec_in now })
+    untaken none =
+        let here = here_is None none in
+        let same = same_state s (shown set_in now) (shown spec_in now)
+        (sets_stay set_in spec_in s sound h plugin least most_of there_of rows sets specs now left_is here)
+        (specs_stay set_in spec_in s sound h plugin least most_of there_of rows sets specs now left_is here) in
+        record {
+          sound = subst IsSound (sym same) sound;
+          none = subst (λ (x : StateValue). may_get (task_run x.task) h plugin x.past ≡ false) is
+              (none_stands set_in spec_in s sound h plugin least most_of there_of rows sets specs here);
+          same = same ∙ is;
+        }
+
+    pub taken_away : (a : A) (state : PlugState) (past : List Item) → found ≡ Some a → state ≡ Live
+        → Some state ≡ state_of s.registry.table plugin → past ≡ Got h plugin ∷ s.past
+        → IsOut h plugin v (record s { past = past; waiting = shown set_in now; arriving = shown spec_in now }) (set_in a) (spec_in a)
+    taken_away a state past some live was got =
+        let stands : IsStanding s h plugin (set_in a) (spec_in a) =
+        one_stands set_in spec_in s sound h plugin least most_of there_of rows sets specs a (here_is (Some a) some)
+        (sym was ∙ ap (λ (x : PlugState). Some x) live) in
+        record {
+          sound = taken_out s h plugin past (shown set_in now) (shown spec_in now) sound least most_of stands.may got
+              (sets_left set_in spec_in s sound h plugin least most_of there_of rows sets specs now left_is)
+              (specs_left set_in spec_in s sound h plugin least most_of there_of rows sets specs now left_is);
+          out = taken_of h plugin s v (record s { past = past; waiting = shown set_in now; arriving = shown spec_in now })
+              (set_in a) (spec_in a) sound least most_of stands is got refl;
+        }
 
 -- What a hart may have yet.
 
@@ -282,7 +360,7 @@ still_none run h q p past none =
     elim (cases_Bool ((h == h) && (q == p))) [
       | inr off ↦ rw off none
       | inl own ↦ rw own (and_right there (live && is_waiting (got (place_of run p h past)))
-      (and_right live (is_waiting (got (place_of run p h past))) (got_off (place_of run p h past))))
+          (and_right live (is_waiting (got (place_of run p h past))) (got_off (place_of run p h past))))
     ]
 
 -- nor the set that it took
@@ -292,4 +370,5 @@ own_none run h plugin past =
     let off : is_waiting (place_of run plugin h now) ≡ false =
     ap is_waiting (own_place run h plugin past) ∙ got_off (place_of run plugin h past) in
     let live = is_live (plugin_of (plugins run now) plugin).state in
-    and_right (is_there run h now) (live && is_waiting (place_of run plugin h now)) (and_right live (is_waiting (place_of run plugin h now)) off)
+    and_right (is_there run h now) (live && is_waiting (place_of run plugin h now))
+    (and_right live (is_waiting (place_of run plugin h now)) off)

@@ -24,7 +24,8 @@ IsGotBy h (Told party plugin) = ⊥
 IsGotBy h (Got hart plugin) = hart ≡ h
 IsGotBy h (Took party plugin) = ⊥
 
--- the set of a plug-in was taken, which hart h may have, with its filters: the hart has one set more then, of a plug-in of which it had none
+-- the set of a plug-in was taken, which hart h may have, with its filters: the hart has one set more then, and it had none of this
+-- plug-in
 pub record IsTakenOut (h plugin : ℕ) (old new : StateValue) (attachment : Attachment) (filters : SetSpec) : Type 0 where
   pub may : may_get (task_run old.task) h plugin old.past ≡ true
   pub number : attachment.plugin ≡ plugin
@@ -32,8 +33,10 @@ pub record IsTakenOut (h plugin : ℕ) (old new : StateValue) (attachment : Atta
   pub rest : new ≡ record old { past = new.past; waiting = new.waiting; arriving = new.arriving }
   pub no_set : IsAbsent plugin (sets_for is_with_hart (task_run old.task) h old.past)
   pub no_filters : HasNoSpec plugin (specs_for (task_run old.task) h old.past)
-  pub sets : sets_for is_with_hart (task_run old.task) h new.past ≡ with_set attachment (sets_for is_with_hart (task_run old.task) h old.past)
-  pub specs : specs_for (task_run old.task) h new.past ≡ with_spec (plugin, filters) (specs_for (task_run old.task) h old.past)
+  pub sets : sets_for is_with_hart (task_run old.task) h new.past
+      ≡ with_set attachment (sets_for is_with_hart (task_run old.task) h old.past)
+  pub specs : specs_for (task_run old.task) h new.past
+      ≡ with_spec (plugin, filters) (specs_for (task_run old.task) h old.past)
 
 -- hart h took sets, and has these with these filters then
 pub record HasAttached (h : ℕ) (old new : StateValue) (sets : List Attachment) (specs : List (ℕ × SetSpec)) : Type 0 where

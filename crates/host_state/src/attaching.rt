@@ -18,7 +18,8 @@ use flat_model::{Item, PlugState};
 use watcher_api::{Attached, Closer, Held, Watcher};
 
 impl<W: Watcher, C: Closer<Held<W>>> HostState<W, C> {
-    /// Takes the set of a plug-in out, with its filters; `None` exactly where none waits for the hart that it may have.
+    /// Takes the plug-in's set out that waits for the hart, with its filters; `None` exactly where there is none that the
+    /// hart may have.
     fn take_waiting(&mut self, no: u8, plugin: u8) -> Option<Arrival<W>>
         requires least { 1 ≤ plugin }
         requires most { plugin ≤ length self.old.registry.table.plugins }
@@ -35,7 +36,7 @@ impl<W: Watcher, C: Closer<Held<W>>> HostState<W, C> {
         Some(arrival)
     }
 
-    /// Moves the set of a plug-in to the hart, where it waits for it.
+    /// Moves the plug-in's set to the hart, where one waits that the hart may have.
     fn attach_one(&mut self, no: u8, plugin: u8, attached: &mut Attached<W>, specs: &mut Specs)
         requires least { 1 ≤ plugin }
         requires most { plugin ≤ length self.old.registry.table.plugins }
@@ -74,7 +75,7 @@ impl<W: Watcher, C: Closer<Held<W>>> HostState<W, C> {
         for number in 0..count {
             self.attach_one(no, number + 1, attached, specs);
         }
-        // The log is legal.
+        // The state's log is legal: no set waits that the hart may not take.
         let _ = &self.past;
     }
 }

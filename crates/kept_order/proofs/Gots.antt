@@ -23,7 +23,8 @@ one_got t hart number past = record {
   owes = λ h. refl;
 }
 
-changes_more : (t : Task) (past between now : List Item) → LittleIsChanged t past between → LittleIsChanged t between now → LittleIsChanged t past now
+changes_more : (t : Task) (past between now : List Item) → LittleIsChanged t past between
+    → LittleIsChanged t between now → LittleIsChanged t past now
 changes_more t past between now first next = record {
   world = next.world ∙ first.world;
   plugins = next.plugins ∙ first.plugins;

@@ -1,5 +1,3 @@
-use Rattle.std.proofs.Common.{sym, ap, subst, ◌∙◌}
-use Rattle.host_state.specs.Taking.{HasAttached}
 use Rattle.host_state.proofs.Gathering.{one_attached, own_taken, others_as_before}
 use Rattle.host_state.proofs.states.HostState.attach_one.Goals as goal
 
