@@ -27,6 +27,7 @@ use Rattle.flat_model.specs.World.{Machine, HartState, Shared}
 use Rattle.block_finder.specs.Block.{Stretch}
 use Rattle.instr_lists.specs.Sorts.{IsInside, IsAccess, LiesIn}
 
+-- each of them lies in the block
 abbrev EachLies : Stretch → List What → Type 0
 EachLies block [] = Unit {0}
 EachLies block (what ∷ whats) = LiesIn block what × EachLies block whats
