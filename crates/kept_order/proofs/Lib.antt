@@ -23,3 +23,5 @@ pub mod Gots
 pub mod Rows
 pub mod Asked
 pub mod Seats
+pub mod TellsInside
+pub mod InBlocks
