@@ -1,5 +1,6 @@
 -- Sets that a hart takes, one after the other.
-use Rattle.std.proofs.Common.{◌≡◌, ◌==◌, ◌+◌, ◌≤◌, ◌∷◌, [], ◌∙◌, ℕ, suc, true, false, List, All, inl}
+use Rattle.std.proofs.lemmas.Bool.{false≢true}
+use Rattle.std.proofs.Common.{◌≡◌, ◌==◌, ◌+◌, ◌≤◌, ◌∷◌, [], ◌∙◌, ℕ, suc, true, false, List, All, inl, Bool, ◌||◌, refl, sym}
 use Rattle.std.proofs.Common.{inr, length, refl, sym, ap, subst, arith}
 use Rattle.std.proofs.lemmas.Bool.{cases_Bool}
 use Rattle.std.proofs.lemmas.Bool.Decides.{nat_tests}
@@ -119,3 +120,11 @@ none_more old new h k others none own p one most =
       | inl at ↦ ap (λ (n : ℕ). may_get (task_run new.task) h n new.past) (let e : p ≡ k + 1 = grind (arith, nat_tests, at) in e) ∙ own
       | inr off ↦ others p (none p one (grind (arith, nat_tests, off, most)))
     ]
+
+-- where nothing came so far and nothing comes now, nothing came
+pub no_more : (some came : Bool) (first now last : List Attachment) (before then' behind : List (ℕ × SetSpec))
+    → (some ≡ false → (now ≡ first) × (then' ≡ before)) → (came ≡ false → (last ≡ now) × (behind ≡ then'))
+    → (some || came) ≡ false → (last ≡ first) × (behind ≡ before)
+no_more true came first now last before then' behind so_far one none = absurd (false≢true (sym none))
+no_more false came first now last before then' behind so_far one none =
+    ((one none).0 ∙ (so_far refl).0, (one none).1 ∙ (so_far refl).1)

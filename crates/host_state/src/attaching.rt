@@ -18,8 +18,7 @@ use flat_model::{Item, PlugState};
 use watcher_api::{Attached, Closer, Held, Watcher};
 
 impl<W: Watcher, C: Closer<Held<W>>> HostState<W, C> {
-    /// Takes the plug-in's set out that waits for the hart, with its filters; `None` exactly where there is none that the
-    /// hart may have.
+    /// Takes the set of a plug-in out, with its filters; `None` exactly where none waits for the hart that it may have.
     fn take_waiting(&mut self, no: u8, plugin: u8) -> Option<Arrival<W>>
         requires least { 1 ≤ plugin }
         requires most { plugin ≤ length self.old.registry.table.plugins }
@@ -36,8 +35,14 @@ impl<W: Watcher, C: Closer<Held<W>>> HostState<W, C> {
         Some(arrival)
     }
 
-    /// Moves the plug-in's set to the hart, where one waits that the hart may have.
-    fn attach_one(&mut self, no: u8, plugin: u8, attached: &mut Attached<W>, specs: &mut Specs)
+    /// Moves the set of a plug-in to the hart, where it waits for it; whether it did.
+    fn attach_one(
+        &mut self,
+        no: u8,
+        plugin: u8,
+        attached: &mut Attached<W>,
+        specs: &mut Specs,
+    ) -> bool
         requires least { 1 ≤ plugin }
         requires most { plugin ≤ length self.old.registry.table.plugins }
         requires there { is_there (task_run self.old.task) no self.old.past ≡ true }
@@ -47,16 +52,19 @@ impl<W: Watcher, C: Closer<Held<W>>> HostState<W, C> {
         ensures none { may_get (task_run self.new.task) no plugin self.new.past ≡ false }
         ensures others { (p : ℕ) → may_get (task_run self.old.task) no p self.old.past ≡ false
             → may_get (task_run self.new.task) no p self.new.past ≡ false }
+        ensures nothing { result ≡ false → (attached.new ≡ attached.old) × (specs.new ≡ specs.old) }
     {
         if let Some(arrival) = self.take_waiting(no, plugin) {
             let number = arrival.set.plugin();
             attached.put(arrival.set);
             specs.put(number, arrival.spec);
+            return true;
         }
+        false
     }
 
-    /// Moves each set that waits for the hart to it.
-    pub fn attach(&mut self, no: u8, attached: &mut Attached<W>, specs: &mut Specs)
+    /// Moves each set that waits for the hart to it; whether there was one.
+    pub fn attach(&mut self, no: u8, attached: &mut Attached<W>, specs: &mut Specs) -> bool
         requires there { is_there (task_run self.old.task) no self.old.past ≡ true }
         requires owes_none { owes_any (task_run self.old.task) no self.old.past ≡ false }
         requires attached { attached.old ≡ sets_for is_with_hart (task_run self.old.task) no self.old.past }
@@ -70,12 +78,16 @@ impl<W: Watcher, C: Closer<Held<W>>> HostState<W, C> {
         ensures attached { attached.new ≡ sets_for is_with_hart (task_run self.new.task) no self.new.past }
         ensures specs { specs.new ≡ specs_for (task_run self.new.task) no self.new.past }
         ensures all { takes_all (task_run self.new.task) no self.new.past ≡ true }
+        ensures nothing { result ≡ false → (attached.new ≡ attached.old) × (specs.new ≡ specs.old) }
     {
         let count = self.registry.count();
+        let mut some = false;
         for number in 0..count {
-            self.attach_one(no, number + 1, attached, specs);
+            let came = self.attach_one(no, number + 1, attached, specs);
+            some |= came;
         }
-        // The state's log is legal: no set waits that the hart may not take.
+        // The log is legal.
         let _ = &self.past;
+        some
     }
 }
