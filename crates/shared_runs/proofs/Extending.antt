@@ -5,11 +5,14 @@ use Rattle.std.proofs.lemmas.Bool.Decides.{nat_tests}
 use Rattle.flat_model.specs.declared.events.Event.{Event}
 use Rattle.flat_model.specs.Image.{Program}
 use Rattle.flat_model.specs.World.{Machine, HartState, Shared}
-use Rattle.flat_model.specs.Step.{Stepped, starts_block, step_of, steps_of, IsSharedStep}
+use Rattle.flat_model.specs.Step.{starts_block, step_of, steps_of, IsSharedStep}
 use Rattle.guest_memory.specs.Memory.{MemoryState, harts_of}
 use Rattle.rv_exec.specs.Going.{TellsFew}
 use Rattle.rv_exec.specs.Sharing.{machine_on}
 use Rattle.shared_runs.specs.Runs.{AreSharedSteps, RunsOn}
+
+not_started : (hart : HartState) → 0 < hart.since → starts_block hart ≡ false
+not_started hart on = grind (arith, nat_tests)
 
 pub no_steps : (m : Machine) (h : ℕ) (hart : HartState) (shared : Shared) (events : List Event)
     → AreSharedSteps m h 0 hart hart shared shared events events
@@ -46,6 +49,19 @@ more_run m h k old mid shared between before told all so_far awake running quiet
     below_more (λ j. RunsOn (steps_of m h j old shared)) k all
     (rw so_far.steps (record { awake = awake; running = running; going_on = quiet }))
 
+pub none_inside : (m : Machine) (h : ℕ) (hart : HartState) (shared : Shared) (j : ℕ) → 0 < j → j < 0
+    → starts_block (steps_of m h j hart shared).hart ≡ false
+none_inside m h hart shared j some below = absurd (omega arith)
+
+pub more_inside : (m : Machine) (h k since : ℕ) (old mid : HartState) (shared between : Shared) (before told : List Event)
+    → ((j : ℕ) → 0 < j → j < k → starts_block (steps_of m h j old shared).hart ≡ false)
+    → AreSharedSteps m h k old mid shared between before told
+    → mid.since ≡ since + k
+    → (j : ℕ) → 0 < j → j < k + 1 → starts_block (steps_of m h j old shared).hart ≡ false
+more_inside m h k since old mid shared between before told all so_far counted j some below =
+    below_more (λ j. 0 < j → starts_block (steps_of m h j old shared).hart ≡ false) k (λ j low some. all j some low)
+    (λ some. rw so_far.steps (not_started mid (omega (arith, counted)))) j below some
+
 -- the events of the steps so far: 5 of the first one at most, and 3 of each later one
 pub tells_few : (old new : HartState) (before after : List Event) (i j : ℕ)
     → TellsFew old new before after → new.ending ≡ None → old.since ≡ i → j ≡ i + 1
@@ -53,7 +69,6 @@ pub tells_few : (old new : HartState) (before after : List Event) (i j : ℕ)
     → length after ≤ 3 * j + 2 * min j 1
 tells_few old new before after zero j few ran since next was = let more = few.going_on ran in omega (arith, more, was)
 tells_few old new before after (suc i) j few ran since next was =
-    let later : 0 < old.since = omega (arith, since) in
-    let inside : starts_block old ≡ false = grind (arith, nat_tests) in
+    let inside : starts_block old ≡ false = not_started old (omega (arith, since)) in
     let more = few.going_on_inside ran inside in
     omega (arith, more, was)

@@ -1,5 +1,5 @@
 -- Where a hart is behind the words of a block.
-use Rattle.std.proofs.Common.{◌≡◌, ℕ, ◌+◌, ◌*◌, ◌%◌, ◌<◌, ◌≤◌, ◌==◌, ◌||◌, inl, inr, Bool, true, false}
+use Rattle.std.proofs.Common.{◌≡◌, ℕ, ◌+◌, ◌*◌, ◌%◌, ◌<◌, ◌≤◌, inl, inr, Bool, true, false}
 use Rattle.std.proofs.Common.{Option, Some, None, IsSome, refl, sym, ◌∙◌, ap, subst, arith, List}
 use Rattle.std.specs.Option.{option_map_or}
 use Rattle.std.proofs.lemmas.Bool.Decides.{nat_tests}
@@ -51,26 +51,31 @@ ended : (word : Option ℕ) → option_map_or word_ends word false ≡ true → 
 ended None ends = refl
 ended (Some word) ends = ends
 
+-- why the block has no more words
+stopped : (image : Program) (start n k : ℕ) (old new : HartState)
+    → old.pc ≡ start + 4 * k → new.pc ≡ start + 4 * n → n ≡ k + 1
+    → new.since ≡ since_after old.since (ends_with (word_at image old.pc)) new.pc → 0 < new.since → n < 512
+    → start % 4096 + 4 * n ≤ 4096 → StopsAfter image start n
+    → word_at image new.pc ≡ None
+stopped image start n k old new here next last is on small page (inl full) = absurd (omega arith)
+stopped image start n k old new here next last is on small page (inr (inl end)) =
+    let at : new.pc % 4096 ≡ 0 = omega arith in
+    absurd (no_page old.since new.pc (ends_with (word_at image old.pc)) (rw is at on) at)
+stopped image start n k old new here next last is on small page (inr (inr (inl absent))) = rw next absent
+stopped image start n k old new here next last is on small page (inr (inr (inr (l, is_last, ends)))) =
+    let same : start + 4 * l ≡ old.pc = omega arith in
+    absurd (no_end old.since new.pc (ends_with (word_at image old.pc)) (rw is at on) (ended (word_at image old.pc) (rw same at ends)))
+
 -- a hart that is inside a block behind its last word is at an absent one
 pub absent_behind : (m : Machine) (h start n k : ℕ) (old new : HartState) (shared left : Shared) (before after : List Event)
     → old.parked ≡ false → old.ending ≡ None → shared.group ≡ None → IsSharedStep m h old new shared left before after
-    → new.ending ≡ None → 0 < new.since → new.since < 512
-    → old.pc ≡ start + 4 * k → new.pc ≡ start + 4 * n → n ≡ k + 1 → new.since ≡ n
+    → new.ending ≡ None → 0 < new.since → n < 512
+    → old.pc ≡ start + 4 * k → new.pc ≡ start + 4 * n → n ≡ k + 1
     → start % 4096 + 4 * n ≤ 4096 → StopsAfter m.image start n
     → word_at m.image new.pc ≡ None
-absent_behind m h start n k old new shared left before after awake running quiet step goes on small here next last since page (inl full) =
-    absurd (omega arith)
-absent_behind m h start n k old new shared left before after awake running quiet step goes on small here next last since page (inr (inl end)) =
-    let is = since_of_step m h old new shared left before after awake running quiet step goes in
-    let at : new.pc % 4096 ≡ 0 = omega arith in
-    absurd (no_page old.since new.pc (ends_with (word_at m.image old.pc)) (rw is at on) at)
-absent_behind m h start n k old new shared left before after awake running quiet step goes on small here next last since page (inr (inr (inl absent))) =
-    rw next absent
-absent_behind m h start n k old new shared left before after awake running quiet step goes on small here next last since page
-    (inr (inr (inr (l, is_last, ends)))) =
-    let is = since_of_step m h old new shared left before after awake running quiet step goes in
-    let same : start + 4 * l ≡ old.pc = omega arith in
-    absurd (no_end old.since new.pc (ends_with (word_at m.image old.pc)) (rw is at on) (ended (word_at m.image old.pc) (rw same at ends)))
+absent_behind m h start n k old new shared left before after awake running quiet step goes on small here next last page stops =
+    stopped m.image start n k old new here next last
+    (since_of_step m h old new shared left before after awake running quiet step goes) on small page stops
 
 -- a step at an absent word ends its hart
 pub ends_absent : (m : Machine) (h : ℕ) (old new : HartState) (shared left : Shared) (before after : List Event)

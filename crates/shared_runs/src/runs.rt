@@ -119,7 +119,9 @@ pub fn shared_run(
     ensures each { (j : ℕ) → j < result
         → RunsOn (steps_of (machine_on image.now memory.old limit) no j hart.old (shared_of memory.old services.old)) }
 
-    // They are some, and lead out of the block or to the hart's end.
+    // Only the first may start a block; they are some, and lead out of the block or to the hart's end.
+    ensures inside { (j : ℕ) → 0 < j → j < result → starts_block
+        (steps_of (machine_on image.now memory.old limit) no j hart.old (shared_of memory.old services.old)).hart ≡ false }
     ensures some { 0 < result }
     ensures most { first + result ≤ 512 }
     ensures leaves { hart.new.ending ≡ None → hart.new.since ≡ 0 }

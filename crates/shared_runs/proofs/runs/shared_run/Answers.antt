@@ -2,7 +2,7 @@ use Rattle.std.proofs.Common.{◌≡◌, ◌+◌, ◌*◌, ◌<◌, ◌≤◌, N
 use Rattle.flat_model.specs.Permission.{spans_of}
 use Rattle.flat_model.specs.World.{HartState}
 use Rattle.rv_exec.specs.Sharing.{shared_of, machine_on}
-use Rattle.shared_runs.proofs.Extending.{no_steps, one_more, none_run, more_run, tells_few}
+use Rattle.shared_runs.proofs.Extending.{no_steps, one_more, none_run, more_run, none_inside, more_inside, tells_few}
 use Rattle.shared_runs.proofs.Leaving.{absent_behind}
 use Rattle.shared_runs.proofs.runs.shared_run.Goals as goal
 
@@ -18,6 +18,7 @@ loop-site-init c =
     record {
       steps = no_steps machine c.args.no c.args.hart.now shared c.args.raw.now.events;
       each = none_run machine c.args.no c.args.hart.now shared;
+      inside = none_inside machine c.args.no c.args.hart.now shared;
       made = refl;
       may = record {
         awake = c.requires.awake;
@@ -69,8 +70,10 @@ loop-site-preserved c =
     let e = c.step_at.ensures in
     let ran : now.hart.ending ≡ None = search rules in
     let inside : 0 < now.hart.since = search rules in
-    let small : now.hart.since < 512 = let i = c.hart.invariant.since_small in
-    let same = ap (λ (h : HartState). h.since) c.hart.view_is in omega (arith, i, same) in
+    let small : now.hart.since < 512 =
+    let fits = c.hart.invariant.since_small in
+    let same = ap (λ (h : HartState). h.since) c.hart.view_is in
+    omega (arith, fits, same) in
     let next : now.hart.pc ≡ at.hart.pc + 4 = e.straight.next ran inside in
     let counted : now.hart.since ≡ at.hart.since + 1 = e.straight.counted ran inside in
     let place : now.hart.pc ≡ first.block.now.pc + 4 * (first.first + (at.made + 1)) =
@@ -86,6 +89,9 @@ loop-site-preserved c =
       each = more_run (machine_on image first.memory.now first.limit) first.no at.made first.hart.now at.hart
           (shared_of first.memory.now first.services.now) (shared_of at.memory at.services) first.raw.now.events at.raw.events
           was.each was.steps was.may.awake was.may.running was.may.going_on;
+      inside = more_inside (machine_on image first.memory.now first.limit) first.no at.made first.first first.hart.now at.hart
+          (shared_of first.memory.now first.services.now) (shared_of at.memory at.services) first.raw.now.events at.raw.events
+          was.inside was.steps was.since;
       made = let before = was.made in omega (arith, before);
       may = record {
         awake = e.awake;
@@ -106,8 +112,8 @@ loop-site-preserved c =
           let all : first.first + (at.made + 1) ≡ first.block.now.n = last ∙ block.all in
           absent_behind (machine_on image at.memory first.limit) first.no first.block.now.pc first.block.now.n (first.first + at.made)
           at.hart now.hart (shared_of at.memory at.services) (shared_of now.memory now.services) at.raw.events now.raw.events
-          was.may.awake was.may.running was.may.going_on e.step ran inside small was.place
-          (place ∙ ap (λ n. first.block.now.pc + 4 * n) all) (omega (arith, all)) (since ∙ all) block.long.in_page block.long.stops;
+          was.may.awake was.may.running was.may.going_on e.step ran inside (omega (arith, all, since, small)) was.place
+          (place ∙ ap (λ n. first.block.now.pc + 4 * n) all) (omega (arith, all)) block.long.in_page block.long.stops;
       few = few;
       kept = e.kept ∙ was.kept;
       counted = let n = e.counted in let before = was.counted in omega (arith, n, before);

@@ -1,6 +1,6 @@
-use Rattle.std.proofs.Common.{◌≡◌, ◌<◌, ◌≤◌, ◌+◌, ◌*◌, ℕ, None, length, min}
+use Rattle.std.proofs.Common.{◌≡◌, ◌<◌, ◌≤◌, ◌+◌, ◌*◌, ℕ, false, None, length, min}
 use Rattle.flat_model.specs.Image.{word_at}
-use Rattle.flat_model.specs.Step.{steps_of}
+use Rattle.flat_model.specs.Step.{starts_block, steps_of}
 use Rattle.rv_exec.specs.Sharing.{shared_of, machine_on, KeepsLayout, KeepsPlaces}
 use Rattle.shared_runs.specs.Runs.{AreSharedSteps, RunsOn, MayStep}
 use Rattle.shared_runs.proofs.runs.shared_run.Given as goal
@@ -11,7 +11,11 @@ invariant-loop-site l = record {
   steps : AreSharedSteps (machine_on l.image l.initial.memory l.limit) l.no l.made l.initial.hart l.hart
       (shared_of l.initial.memory l.initial.services) (shared_of l.memory l.services) l.initial.raw.events l.raw.events;
   each : (j : ℕ) → j < l.made
-      → RunsOn (steps_of (machine_on l.image l.initial.memory l.limit) l.no j l.initial.hart (shared_of l.initial.memory l.initial.services));
+      → RunsOn
+      (steps_of (machine_on l.image l.initial.memory l.limit) l.no j l.initial.hart (shared_of l.initial.memory l.initial.services));
+  inside : (j : ℕ) → 0 < j → j < l.made → starts_block
+      (steps_of (machine_on l.image l.initial.memory l.limit) l.no j l.initial.hart (shared_of l.initial.memory l.initial.services)).hart
+      ≡ false;
   made : l.made ≡ l.site-index;
   may : MayStep l.image l.no l.limit l.hart l.memory l.services l.raw;
   place : l.hart.pc ≡ l.block.pc + 4 * (l.first + l.made);
