@@ -1,7 +1,7 @@
 -- The state as a hart gives a plug-in back.
 use Rattle.std.proofs.Common.{◌≡◌, ◌==◌, ◌+◌, ◌-◌, ◌<◌, ◌≤◌, ◌∙◌, ℕ, true, false, not, List, [], ◌∷◌, length, refl, sym, ap, subst, arith}
 use Rattle.std.proofs.Common.{Option, None}
-use Rattle.std.specs.Prelude.{Vec, slice_set, slice_index_or, filter}
+use Rattle.std.specs.Prelude.{Vec, option_map, slice_set, slice_index_or, filter}
 use Rattle.std.specs.Option.{option_or}
 use Rattle.std.specs.Global.{Global}
 use Rattle.std.proofs.lemmas.List.{length-map, length-set}
@@ -26,7 +26,7 @@ use Rattle.kept_order.specs.Returning.{with_some, set_back, IsReturned}
 use Rattle.kept_order.proofs.Backs.{Owes, gives_owed, backs_keep_order, backs_take_sets}
 use Rattle.host_state.specs.State.{StateValue, IsSound, stored_of}
 use Rattle.host_state.specs.Tables.{rows_of, row_at}
-use Rattle.host_state.proofs.Mapped.{seen, seen_at, seen_long, seen_wide}
+use Rattle.host_state.proofs.Shown.{shown, shown_at, shown_rows, shown_width, shown_with}
 use Rattle.host_state.proofs.Shelved.{waiting_long, waiting_wide, waiting_at, parked_long, parked_wide, set_found}
 
 -- a plug-in that may be given back has a number
@@ -50,25 +50,26 @@ module _ (was s : StateValue) (is : s ≡ was) (sound : IsSound s) (h plugin : �
   pub owes_back : owes s.registry.table h plugin ≡ true
   owes_back = ap (λ (r : Plugins). owes r h plugin) sound.order.plugins ∙ first_true _ _ may
 
-  -- the table of the sets that wait, as it is kept: what is seen of a place is its set
-  module _ {A : Type 0} (f : Option A → Option Attachment) (rows : List (Vec (Option A) Global)) (same : seen f rows ≡ s.waiting)
+  -- the table of the sets that wait, as it is kept: what is shown of a place is its set
+  module _ {A : Type 0} (f : A → Attachment) (rows : List (Vec (Option A) Global)) (same : shown f rows ≡ s.waiting)
       (i j : ℕ) (row : i ≡ plugin - 1) (place : j ≡ h) where
     waits_below : i < length s.waiting
     waits_below = omega (arith, row, owed.one, owed.most, waiting_long s.task (stored_of s) sound.order)
 
     pub waits_row : i < length rows
-    waits_row = omega (arith, waits_below, seen_long f rows, ap (λ (table : List (List (Option Attachment))). length table) same)
+    waits_row = omega (arith, waits_below, shown_rows f rows, ap (λ (table : List (List (Option Attachment))). length table) same)
 
     pub waits_place : j < length (row_at (rows_of rows) i)
     waits_place =
-        seen_wide f j i rows
-        (subst (λ (table : List (List (Option Attachment))). j < length (row_at table i)) (sym same)
+        let wide : j < length (slice_index_or (shown f rows) i []) =
+        subst (λ (table : List (List (Option Attachment))). j < length (row_at table i)) (sym same)
         (omega (
           arith,
           place,
           All-get_or (λ (r : List (Option Attachment)). h < length r) s.waiting i [] waits_below
               (waiting_wide s.task (stored_of s) sound.order h owed.hart),
-        )))
+        )) in
+        omega (arith, wide, shown_width f rows i)
 
     waits_at : slice_index_or (row_at s.waiting i) j None ≡ placed_at is_waiting (task_run s.task) s.past plugin h
     waits_at =
@@ -78,13 +79,13 @@ module _ (was s : StateValue) (is : s ≡ was) (sound : IsSound s) (h plugin : �
 
     -- the set that comes back
     pub comes_back : (sets : List Attachment) (set taken : Option Attachment)
-        → set ≡ option_or (f (slice_index_or (row_at (rows_of rows) i) j None)) taken → f None ≡ None
+        → set ≡ option_or (option_map f (slice_index_or (row_at (rows_of rows) i) j None)) taken
         → sets ≡ sets_for is_with_hart (task_run was.task) h was.past → taken ≡ set_of plugin sets
         → set ≡ set_back (task_run s.task) h plugin s.past
-    comes_back sets set taken back none of found =
-        let waits : f (slice_index_or (row_at (rows_of rows) i) j None) ≡ placed_at is_waiting (task_run s.task) s.past plugin h =
-        seen_at f rows i j None
-        ∙ ap (λ (d : Option Attachment). slice_index_or (row_at (seen f rows) i) j d) none
+    comes_back sets set taken back of found =
+        let waits : option_map f (slice_index_or (row_at (rows_of rows) i) j None)
+        ≡ placed_at is_waiting (task_run s.task) s.past plugin h =
+        sym (shown_at f rows i j)
         ∙ ap (λ (table : List (List (Option Attachment))). slice_index_or (row_at table i) j None) same ∙ waits_at in
         let with : taken ≡ placed_at is_with_hart (task_run s.task) s.past plugin h =
         found ∙ ap (set_of plugin) (of ∙ ap (λ (v : StateValue). sets_for is_with_hart (task_run v.task) h v.past) (sym is))
@@ -177,6 +178,16 @@ module _ (was s : StateValue) (is : s ≡ was) (h plugin : ℕ) (past : List Ite
       left
       ∙ ap (filter (λ (s : ℕ × SetSpec). not (s.0 == plugin))) (of ∙ ap (λ (v : StateValue). specs_for (task_run v.task) h v.past) (sym is))
       ∙ sym (backs_take_sets (task_run s.task) h plugin s.past).specs ∙ ap (specs_for (task_run s.task) h) (sym items)
+
+-- what is shown of a table that is written into a vector, at other numbers
+pub shown_written : {A B : Type 0} (f : A → B) (all new old base : List (Vec (Option A) Global)) (i j k h : ℕ) (x : Option A) → all ≡ new
+    → rows_of new ≡ with_place (rows_of old) i j x → old ≡ base → i ≡ k → j ≡ h
+    → shown f all ≡ with_place (shown f base) k h (option_map f x)
+shown_written {A} f all new old base i j k h x written is same row place =
+    let y = option_map f x in
+    ap (shown f) written ∙ shown_with f old new i j x is
+    ∙ ap (λ (table : List (Vec (Option A) Global)). with_place (shown f table) i j y) same
+    ∙ ap (λ (n : ℕ). with_place (shown f base) n j y) row ∙ ap (λ (n : ℕ). with_place (shown f base) k n y) place
 
 -- what is parked in a table that is written into a vector, at other numbers
 pub parked_as : (all new old base : List (Vec (Option Attachment) Global)) (i j k h : ℕ) (set other : Option Attachment) → all ≡ new

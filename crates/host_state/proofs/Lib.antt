@@ -8,5 +8,4 @@ pub mod Gathering
 pub mod Parking
 pub mod Shelved
 pub mod Departing
-pub mod Mapped
 pub mod GivingBack

@@ -1,11 +1,10 @@
-use Rattle.std.proofs.Common.{◌≡◌, ◌-◌, ◌++◌, None, take, drop, length, refl, ap, arith}
-use Rattle.std.specs.Prelude.{option_map}
+use Rattle.std.proofs.Common.{◌≡◌, ◌-◌, ◌++◌, None, take, drop, length, ap, arith}
 use Rattle.plug_registry.specs.State.{RegistryState}
 use Rattle.host_state.specs.Tables.{rows_of}
 use Rattle.host_state.proofs.Parking.{whole}
-use Rattle.host_state.proofs.Mapped.{seen, seen_written}
+use Rattle.host_state.proofs.Shown.{shown}
 use Rattle.host_state.proofs.GivingBack.{numbered, owes_back, waits_row, waits_place, comes_back, parks_row, parks_place, returned_sound}
-use Rattle.host_state.proofs.GivingBack.{sets_left, specs_left, parked_as}
+use Rattle.host_state.proofs.GivingBack.{sets_left, specs_left, shown_written, parked_as}
 use Rattle.host_state.proofs.states.HostState.collect.Goals as goal
 
 pub overflow_sub-plugin : goal.overflow_sub-plugin
@@ -13,14 +12,14 @@ overflow_sub-plugin g c = numbered _ c.args.no c.args.plugin c.args.self.now.pas
 
 pub back_from-set-requires-clause-row : goal.back_from-set-requires-clause-row
 back_from-set-requires-clause-row g c =
-    waits_row c.args.self.now _ c.self.view_is c.self.invariant c.args.no c.args.plugin c.requires.legal (option_map (λ a. a.set))
-    c.deref_mut.result.now (ap (seen (option_map (λ a. a.set))) c.deref_mut.ensures.value) c.from-row.result c.from-place.result
+    waits_row c.args.self.now _ c.self.view_is c.self.invariant c.args.no c.args.plugin c.requires.legal (λ a. a.set)
+    c.deref_mut.result.now (ap (shown (λ a. a.set)) c.deref_mut.ensures.value) c.from-row.result c.from-place.result
     c.from-row.ensures c.from-place.ensures
 
 pub back_from-set-requires-clause-place : goal.back_from-set-requires-clause-place
 back_from-set-requires-clause-place g c =
-    waits_place c.args.self.now _ c.self.view_is c.self.invariant c.args.no c.args.plugin c.requires.legal (option_map (λ a. a.set))
-    c.deref_mut.result.now (ap (seen (option_map (λ a. a.set))) c.deref_mut.ensures.value) c.from-row.result c.from-place.result
+    waits_place c.args.self.now _ c.self.view_is c.self.invariant c.args.no c.args.plugin c.requires.legal (λ a. a.set)
+    c.deref_mut.result.now (ap (shown (λ a. a.set)) c.deref_mut.ensures.value) c.from-row.result c.from-place.result
     c.from-row.ensures c.from-place.ensures
 
 pub park-requires-clause-row : goal.park-requires-clause-row
@@ -49,16 +48,16 @@ invariant_of-self g c =
     returned_sound c.args.self.now _ c.self.view_is c.self.invariant c.args.no c.args.plugin c.requires.legal c.back.new.self
     c.push.new.self c.with_item-self-inside.result.items _ _ _ (ap (λ (r : RegistryState). r.table) c.back.ensures)
     c.push.ensures.appends c.with_item-self-inside.ensures.item
-    (seen_written (option_map (λ a. a.set)) _ new c.deref_mut.result.now inside.waiting.items row place (c.args.plugin - 1) c.args.no None
+    (shown_written (λ a. a.set) _ new c.deref_mut.result.now inside.waiting.items row place (c.args.plugin - 1) c.args.no None
     waits c.back_from-set.ensures.left c.deref_mut.ensures.value c.from-row.ensures c.from-place.ensures)
-    (seen_written (option_map (λ a. a.spec)) _ new c.deref_mut.result.now inside.waiting.items row place (c.args.plugin - 1) c.args.no None
+    (shown_written (λ a. a.spec) _ new c.deref_mut.result.now inside.waiting.items row place (c.args.plugin - 1) c.args.no None
     waits c.back_from-set.ensures.left c.deref_mut.ensures.value c.from-row.ensures c.from-place.ensures)
     (parked_as _ c.park.new.rows c.deref_mut-2.result.now inside.parked.items row place (c.args.plugin - 1) c.args.no
     c.back_from-set.result _ (whole inside.parked.len c.park.new.rows inside.parked.items (omega arith) (omega arith))
     c.park.ensures.parked c.deref_mut-2.ensures.value c.from-row.ensures c.from-place.ensures
-    (comes_back c.args.self.now _ c.self.view_is c.self.invariant c.args.no c.args.plugin c.requires.legal (option_map (λ a. a.set))
-    c.deref_mut.result.now (ap (seen (option_map (λ a. a.set))) c.deref_mut.ensures.value) row place c.from-row.ensures c.from-place.ensures
-    c.args.attached.now c.back_from-set.result c.take.result c.back_from-set.ensures.back refl c.requires.attached c.take.ensures.taken))
+    (comes_back c.args.self.now _ c.self.view_is c.self.invariant c.args.no c.args.plugin c.requires.legal (λ a. a.set)
+    c.deref_mut.result.now (ap (shown (λ a. a.set)) c.deref_mut.ensures.value) row place c.from-row.ensures c.from-place.ensures
+    c.args.attached.now c.back_from-set.result c.take.result c.back_from-set.ensures.back c.requires.attached c.take.ensures.taken))
 
 pub returns-clause-attached : goal.returns-clause-attached
 returns-clause-attached g c =
