@@ -1,3 +1,13 @@
-pub mod AllowedSets
 pub mod Placing
+pub mod Commits
+pub mod Filters
+pub mod Rows
+pub mod Shown
+pub mod WaitingSets
+pub mod Gathering
+pub mod Parking
+pub mod Shelved
+pub mod Departing
+pub mod GivingBack
+pub mod AllowedSets
 pub mod Starting

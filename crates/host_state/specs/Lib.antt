@@ -1,4 +1,6 @@
 pub mod Tables
 pub mod Moving
 pub mod State
+pub mod Filters
+pub mod Taking
 pub mod Starting

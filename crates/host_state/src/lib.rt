@@ -1,14 +1,18 @@
 //! What the harts of a run share: the guest's memory and services, the plug-ins, the journal, and the boxes on their way.
 #![tactic(auto)]
 
+pub use specs::Specs;
 pub use states::HostState;
 pub use tasks::Task;
 
 mod arrivals;
+mod attaching;
 mod committing;
 mod leaving;
 mod opening;
 mod reading;
+mod returning;
+mod specs;
 mod states;
 mod tables;
 mod tasks;

@@ -1,7 +1,7 @@
 //! The state before the first hold: the plan's installs are placed, one after the other.
 
-ghost use Rattle.std.specs.Prelude.{◌≡◌, ◌∷◌, ◌<◌, ◌≤◌, ◌+◌, ◌*◌, [], Some, None, false, length, map, option_map, replicate, slice_index_or, vec_len};
-ghost use Rattle.std.specs.Prelude.{All, IfOk, OnOk};
+ghost use Rattle.std.specs.Prelude.{◌≡◌, ◌∷◌, ◌<◌, ◌≤◌, ◌+◌, ◌*◌, [], Some, None, false, length, map, option_map, replicate};
+ghost use Rattle.std.specs.Prelude.{slice_index_or, vec_len, All, IfOk, OnOk};
 ghost use Rattle.flat_model.specs.declared.limits.TheConstants.{PLUGINS_MOST, RACK_BOXES};
 ghost use Rattle.flat_model.specs.declared.journals.Item.TheVariants.{Ordered};
 ghost use Rattle.flat_model.specs.declared.journals.Order.TheVariants.{Install};

@@ -30,7 +30,7 @@ use Rattle.kept_order.specs.Arriving.{arrival_at, arrivals, ArrivalsStay, Instal
 use Rattle.kept_order.proofs.Numbered.{all_given, one_more}
 
 -- the set that a plug-in registered last
-abbrev last_spec : List SetSpec → SetSpec
+abbrev pub last_spec : List SetSpec → SetSpec
 last_spec sets = slice_index_or sets (length sets - 1) no_set
 
 abbrev spec_of : Run → List Item → ℕ → SetSpec
@@ -40,7 +40,7 @@ abbrev row : Run → List Item → ℕ → List (Option SetSpec)
 row run past plugin = map (arrival_at run past plugin) (range_with_len 0 run.harts)
 
 -- a place with the same sets, where the set waits as before
-same_arrival : (run : Run) (past now : List Item) (p j : ℕ) → sets_of (plugins run now) p ≡ sets_of (plugins run past) p
+pub same_arrival : (run : Run) (past now : List Item) (p j : ℕ) → sets_of (plugins run now) p ≡ sets_of (plugins run past) p
     → is_waiting (place_of run p j now) ≡ is_waiting (place_of run p j past) → arrival_at run now p j ≡ arrival_at run past p j
 same_arrival run past now p j sets waits =
     ap (λ (b : Bool). if b then Some (spec_of run now p) else None) waits

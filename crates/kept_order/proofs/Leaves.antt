@@ -29,9 +29,9 @@ use Rattle.kept_order.proofs.Openings.{closer_when, closer}
 
 -- The registry knows the harts of the run, and of each whether it has left.
 
-record KnowsHarts (run : Run) (r : Plugins) : Type 0 where
-  harts : r.harts ≡ run.harts
-  gone : length r.gone ≡ run.harts
+pub record KnowsHarts (run : Run) (r : Plugins) : Type 0 where
+  pub harts : r.harts ≡ run.harts
+  pub gone : length r.gone ≡ run.harts
 
 same_harts : (run : Run) (r q : Plugins) → q.harts ≡ r.harts → length q.gone ≡ length r.gone → KnowsHarts run r → KnowsHarts run q
 same_harts run r q harts gone knows = record { harts = harts ∙ knows.harts; gone = gone ∙ knows.gone }
@@ -42,7 +42,7 @@ order_harts run r (Register number spec) knows = same_harts run r _ refl refl kn
 order_harts run r (Reset number) knows = same_harts run r _ refl refl knows
 order_harts run r (Uninstall number) knows = same_harts run r _ refl refl knows
 
-knows_harts : (run : Run) (past : List Item) → KnowsHarts run (plugins run past)
+pub knows_harts : (run : Run) (past : List Item) → KnowsHarts run (plugins run past)
 unfolding registry
 knows_harts run [] = record { harts = refl; gone = length-replicate run.harts false }
 knows_harts run (Step hart ∷ past) = knows_harts run past

@@ -11,3 +11,17 @@ pub mod Numbered
 pub mod Arrivals
 pub mod TurnLengths
 pub mod Asking
+pub mod Ends
+pub mod Outs
+pub mod Notices
+pub mod Completions
+pub mod Dones
+pub mod Tables
+pub mod Orders
+pub mod Backs
+pub mod Gots
+pub mod Rows
+pub mod Asked
+pub mod Seats
+pub mod TellsInside
+pub mod InBlocks

@@ -1,16 +1,14 @@
 -- What becomes of the stored state where a party takes the closing of a plug-in, and where it has told the closer.
-use Rattle.std.specs.Prelude.{◌≡◌, ◌-◌, ℕ, true, List, [], ◌∷◌, ◌++◌, map, replicate, slice_set, slice_index_or, Option, Some, None}
+use Rattle.std.specs.Prelude.{◌≡◌, ◌-◌, ℕ, true, List, [], ◌∷◌, ◌++◌, replicate, slice_set, slice_index_or, Option, Some, None}
 use Rattle.std.specs.Option.{option_or, option_map_or}
 use Rattle.std.specs.List.{flat_map, filter_map}
-use Rattle.flat_model.specs.declared.journals.Item.{Item}
 use Rattle.flat_model.specs.declared.journals.Item.TheVariants.{Took, Told}
 use Rattle.flat_model.specs.Log.{log}
 use Rattle.flat_model.specs.Registry.{plugin_of, after_done, is_complete}
-use Rattle.score_boards.specs.declared.ParkedColumn.{ParkedColumn}
 use Rattle.watcher_api.specs.Attachment.{Attachment}
 use Rattle.run_rules.specs.Guest.{Run, plugins}
 use Rattle.run_rules.specs.Legal.{Legal}
-use Rattle.run_rules.specs.Places.{IsStateLog, StateRule, taker}
+use Rattle.run_rules.specs.Places.{StateRule, taker}
 use Rattle.run_order.specs.Sets.{Notice, harts_of, boxes_back, how_closed, notice_of, notices_of}
 use Rattle.run_order.specs.InOrder.{Task, Stored, InOrder, task_run}
 use Rattle.kept_order.specs.Arriving.{arrivals}

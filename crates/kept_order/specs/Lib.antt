@@ -8,3 +8,5 @@ pub mod Fitting
 pub mod Ordering
 pub mod Returning
 pub mod Closing
+pub mod Going
+pub mod Lying

@@ -1,7 +1,6 @@
 -- What becomes of the stored state where a hart gives a plug-in back: its set is parked, from the hart or from where it waited.
-use Rattle.std.specs.Prelude.{◌≡◌, ◌-◌, ℕ, true, false, ◌==◌, not, List, ◌∷◌, filter, Option, Some, None}
+use Rattle.std.specs.Prelude.{◌≡◌, ◌-◌, ℕ, ◌==◌, not, List, ◌∷◌, filter, Option, Some, None}
 use Rattle.std.specs.Option.{option_or}
-use Rattle.flat_model.specs.declared.plugins.SetSpec.{SetSpec}
 use Rattle.flat_model.specs.declared.journals.Item.{Item}
 use Rattle.flat_model.specs.declared.journals.Item.TheVariants.{GaveBack}
 use Rattle.flat_model.specs.Log.{log}
@@ -9,7 +8,7 @@ use Rattle.flat_model.specs.Registry.{after_back}
 use Rattle.watcher_api.specs.Attachment.{Attachment, without}
 use Rattle.run_rules.specs.Guest.{Run}
 use Rattle.run_rules.specs.Legal.{Legal}
-use Rattle.run_rules.specs.Places.{IsStateLog, is_waiting, is_with_hart}
+use Rattle.run_rules.specs.Places.{is_waiting, is_with_hart}
 use Rattle.run_order.specs.Sets.{placed_at, sets_for}
 use Rattle.run_order.specs.Laws.{with_place}
 use Rattle.run_order.specs.InOrder.{Task, Stored, InOrder, task_run}
@@ -49,5 +48,4 @@ pub record IsWithout (run : Run) (h plugin : ℕ) (past : List Item) : Type 0 wh
   pub specs : specs_for run h (GaveBack h plugin ∷ past) ≡ filter (λ s. not (s.0 == plugin)) (specs_for run h past)
 
 abbrev pub BacksTakeSets : Type 0
-BacksTakeSets = (run : Run) (h plugin : ℕ) (past : List Item) → Legal run (GaveBack h plugin ∷ past) → IsStateLog run past
-    → IsWithout run h plugin past
+BacksTakeSets = (run : Run) (h plugin : ℕ) (past : List Item) → IsWithout run h plugin past

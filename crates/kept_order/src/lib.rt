@@ -3,9 +3,14 @@
 #![tactic(auto)]
 
 pub mod arriving;
+pub mod closing;
 pub mod fitting;
+pub mod going;
 pub mod hearing;
 pub mod leaving;
+pub mod lying;
 pub mod opening;
+pub mod ordering;
+pub mod returning;
 pub mod taking;
 pub mod turning;

@@ -148,7 +148,7 @@ sets_alike r q plugin long same =
     ap (λ (n : ℕ). sets_in (nat_lt 0 plugin && nat_le plugin n) (plugin_of q plugin).sets) long
     ∙ ap (λ (sets : List SetSpec). sets_in (is_installed r plugin) sets) same
 
-placed_sets : (r : Plugins) (number plugin : ℕ) (p : Plugin) → p.sets ≡ (plugin_of r number).sets
+pub placed_sets : (r : Plugins) (number plugin : ℕ) (p : Plugin) → p.sets ≡ (plugin_of r number).sets
     → sets_of (with_plugin r number p) plugin ≡ sets_of r plugin
 placed_sets r number plugin p same =
     sets_alike r (with_plugin r number p) plugin (length-set r.plugins (number - 1) p) (set_keeps r.plugins (number - 1) p (plugin - 1) same)
