@@ -207,8 +207,8 @@ impl<W: Watcher, C: Closer<Held<W>>> HostState<W, C> {
         Ok(self)
     }
 
-    /// The state before the first hold: the plan's installs stand, and the plan wants nothing more. The rack has a box for
-    /// each subscription that calls and each hart, and a closer for each plug-in.
+    /// The state before the first hold: the plan's installs stand, and the plan wants nothing more. The rack has 128 boxes and
+    /// 8 closers at least.
     pub fn new(
         alloc: Global,
         image: Arc<Image>,
