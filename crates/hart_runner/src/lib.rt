@@ -3,5 +3,6 @@
 
 pub use seats::Seat;
 
+mod delivering;
 mod entering;
 mod seats;
