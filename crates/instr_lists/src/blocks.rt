@@ -1,6 +1,13 @@
 //! The lists of a block.
 
-ghost use Rattle.std.specs.Prelude.{◌≡◌, ◌+◌, ◌*◌, ◌<◌, ◌^◌, ◌++◌, ℕ, true, length, IfOk};
+ghost use Rattle.std.specs.Prelude.{◌≡◌, ◌+◌, ◌*◌, ◌<◌, ◌^◌, ◌++◌, ℕ, List, true, length, All, IfOk, IsTrue};
+ghost use Rattle.flat_model.specs.declared.events.Event.{Event};
+ghost use Rattle.flat_model.specs.Image.{Program};
+ghost use Rattle.block_finder.specs.Block.{IsBlock};
+ghost use Rattle.event_walk.specs.Matches.{classes_of};
+ghost use Rattle.event_walk.specs.Walk.{Walk};
+ghost use Rattle.instr_lists.specs.Delivery.{each_walks};
+ghost use Rattle.instr_lists.specs.Silence.{is_silent, adds_alone};
 ghost use Rattle.instr_lists.specs.Sorts.{IsInside, LiesIn, access_sorts, site_sorts, other_sorts};
 ghost use Rattle.instr_lists.specs.Lists.{IsPlaceOf, AreHeard};
 
@@ -91,6 +98,27 @@ pub fn build(alloc: Global, block: &Block, sets: &[(u8, SetSpec)]) -> Result<Blo
 }
 
 impl BlockList {
+    /// Whether no subscription hears any event that steps in the block can give. Delivery of such events changes nothing,
+    /// so that they need not be stored.
+    #[inline]
+    pub fn is_silent(&self) -> bool
+        ensures silent { result ≡ is_silent self.now.block self.now.sets }
+        ensures skips { IsTrue result → (image : Program) → IsBlock image self.now.block.pc self.now.block
+            → (events : List Event) → All (λ e. LiesIn self.now.block e.what) events
+            → (ws : List Walk) → each_walks (classes_of image) self.now.sets events ws ≡ ws }
+    {
+        self.lists.is_silent()
+    }
+
+    /// Whether all that is done at events which steps in the block can give is to add where the block starts or at a
+    /// word. Such events need not be stored: `deliver_words` delivers them.
+    #[inline]
+    pub fn adds_alone(&self) -> bool
+        ensures adds { result ≡ adds_alone self.now.block self.now.sets }
+    {
+        self.lists.adds_alone()
+    }
+
     /// The address of the block, in bytes.
     #[inline]
     pub(crate) fn pc(&self) -> u64

@@ -6,6 +6,7 @@ pub use caching::ListCache;
 pub use delivery::deliver;
 pub use kept_lists::KeptList;
 
+mod additions;
 mod blocks;
 mod caching;
 mod delivery;
