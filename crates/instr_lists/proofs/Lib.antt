@@ -6,4 +6,6 @@ pub mod Hearing
 pub mod OneEvent
 pub mod Events
 pub mod Unstored
+pub mod Adding
+pub mod Told
 pub mod Kept

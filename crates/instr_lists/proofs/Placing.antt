@@ -21,7 +21,7 @@ pub five_each : (sites : List Site) → length (flat_map site_sorts sites) ≡ 5
 five_each [] = refl
 five_each (s ∷ sites) = omega (arith, five_each sites, length-append (site_sorts s) (flat_map site_sorts sites))
 
-all_long : (sites : List Site) → length (sorts_of sites) ≡ 5 * length sites + 4
+pub all_long : (sites : List Site) → length (sorts_of sites) ≡ 5 * length sites + 4
 all_long sites = omega (arith, five_each sites, length-append (flat_map site_sorts sites) other_sorts)
 
 -- sort j of word k

@@ -1,6 +1,6 @@
 -- Blocks whose events need not be stored: those that nothing hears, and those at which all that is heard is an
 -- unconditional add, where the block starts or at a word.
-use Rattle.std.specs.Prelude.{◌≡◌, ℕ, zero, suc, Bool, true, false, not, ◌&&◌, ◌||◌, List, [], ◌∷◌, filter, map, take}
+use Rattle.std.specs.Prelude.{◌≡◌, ℕ, zero, suc, Bool, true, false, not, ◌&&◌, ◌||◌, List, [], ◌∷◌, filter, map, take, All}
 use Rattle.std.specs.List.{list_all}
 use Rattle.flat_model.specs.declared.events.Event.{Event}
 use Rattle.flat_model.specs.declared.events.What.{What}
@@ -15,7 +15,9 @@ use Rattle.block_finder.specs.declared.blocks.Site.{Site}
 use Rattle.block_finder.specs.Block.{Stretch}
 use Rattle.instr_lists.specs.declared.sorts.Sort.{Sort}
 use Rattle.instr_lists.specs.declared.sorts.Sort.TheVariants.{Init, Block, Insn, Mem, Sys, SysRet, Exit}
+use Rattle.instr_lists.specs.declared.slots.Slot.{Slot}
 use Rattle.instr_lists.specs.Sorts.{passes, sorts_of}
+use Rattle.instr_lists.specs.Delivery.{act_at}
 
 -- an act that adds to an entry, whatever the event and the entries are
 abbrev pub is_addition : Op → Bool
@@ -58,10 +60,24 @@ is_silent block sets = at_all is_deaf sets (sorts_of block.sites)
 abbrev pub adds_alone : Stretch → List (ℕ × SetSpec) → Bool
 adds_alone block sets = at_all only_adds sets (sorts_of block.sites)
 
+-- the acts of sets, and slots of them that all add
+abbrev pub acts_each : List (ℕ × SetSpec) → List (List Act)
+acts_each sets = map (λ s. map (λ (sub : Sub). sub.act) s.1.subs) sets
+
+abbrev pub AllAdd : List (List Act) → List Slot → Type 0
+AllAdd acts slots = All (λ slot. is_add (act_at acts slot) ≡ true) slots
+
+-- the Insn events of the first words of a block
+abbrev pub word_told : Site → What
+word_told s = what.Insn s.pc s.word
+
+abbrev pub words_of : Stretch → ℕ → List What
+words_of block words = map word_told (take words block.sites)
+
 -- the Block and Insn events that the first words of a block give, gone through from its start
 abbrev pub code_of : Stretch → ℕ → List What
 code_of block zero = []
-code_of block (suc k) = what.Block block.pc block.n ∷ map (λ (s : Site). what.Insn s.pc s.word) (take (suc k) block.sites)
+code_of block (suc k) = what.Block block.pc block.n ∷ words_of block (suc k)
 
 -- what some events tell of the code
 abbrev pub code_in : List Event → List What

@@ -7,7 +7,7 @@ ghost use Rattle.block_finder.specs.Block.{IsBlock};
 ghost use Rattle.event_walk.specs.Matches.{classes_of};
 ghost use Rattle.event_walk.specs.Walk.{Walk};
 ghost use Rattle.instr_lists.specs.Delivery.{each_walks};
-ghost use Rattle.instr_lists.specs.Silence.{is_silent, adds_alone};
+ghost use Rattle.instr_lists.specs.Silence.{is_silent, adds_alone, acts_each, AllAdd};
 ghost use Rattle.instr_lists.specs.Sorts.{IsInside, LiesIn, access_sorts, site_sorts, other_sorts};
 ghost use Rattle.instr_lists.specs.Lists.{IsPlaceOf, AreHeard};
 
@@ -164,5 +164,27 @@ impl BlockList {
         ensures heard { AreHeard self.now what.now result.now }
     {
         self.lists.get(self.place(what))
+    }
+
+    /// The subscriptions that hear that the block starts.
+    #[inline]
+    pub(crate) fn start_slots(&self) -> &[Slot]
+        requires some { 0 < length self.now.block.sites }
+        ensures heard { (n : ℕ) → AreHeard self.now (What.Block self.now.block.pc n) result.now }
+        ensures add { adds_alone self.now.block self.now.sets ≡ true → AllAdd (acts_each self.now.sets) result.now }
+    {
+        self.lists.get(0)
+    }
+
+    /// The subscriptions that hear that word `k`, from 0, is executed.
+    #[inline]
+    pub(crate) fn word_slots(&self, k: usize) -> &[Slot]
+        requires within { k < length self.now.block.sites }
+        ensures heard { (word : ℕ) → AreHeard self.now (What.Insn (self.now.block.pc + 4 * k) word) result.now }
+        ensures add { adds_alone self.now.block self.now.sets ≡ true → AllAdd (acts_each self.now.sets) result.now }
+    {
+        // The place is below five times this number, which bounds it.
+        let _words = self.n;
+        self.lists.get(5 * k + 1)
     }
 }

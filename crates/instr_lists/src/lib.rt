@@ -5,6 +5,7 @@ pub use blocks::{BlockList, build};
 pub use caching::ListCache;
 pub use delivery::deliver;
 pub use kept_lists::KeptList;
+pub use words::deliver_words;
 
 mod additions;
 mod blocks;
@@ -16,3 +17,4 @@ mod slots;
 mod sorts;
 #[cfg(test)]
 mod tests;
+mod words;
