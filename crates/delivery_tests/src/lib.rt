@@ -6,8 +6,12 @@ mod attaching;
 #[cfg(test)]
 mod guests;
 #[cfg(test)]
+mod lookups;
+#[cfg(test)]
 mod readings;
 #[cfg(test)]
 mod runs;
 #[cfg(test)]
 mod tests;
+#[cfg(test)]
+mod unstored;

@@ -25,8 +25,7 @@ fn is_code(sort: &Sort) -> bool
 fn set_only_adds(sort: &Sort, subs: &[Sub]) -> bool
     ensures { result ≡ list_all (only_adds sort.now) subs.now }
 {
-    subs.iter()
-        .all(|sub| !passes(&sub.filter, sort) || is_code(sort) && is_add(&sub.act))
+    subs.iter().all(|sub| !passes(&sub.filter, sort) || is_code(sort) && is_add(&sub.act))
 }
 
 /// The same of all subscriptions of these sets.
