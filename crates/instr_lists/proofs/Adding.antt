@@ -1,7 +1,7 @@
 -- Slots whose acts all add.
 use Rattle.std.proofs.Common.{◌≡◌, ◌<◌, ◌+◌, ◌*◌, ◌∙◌, ◌++◌, ◌∷◌, ◌&&◌, ◌||◌, [], ℕ, zero, suc, Bool, true, false, List, length, map, take}
 use Rattle.std.proofs.Common.{refl, sym, ap, subst, arith, All, append_assoc}
-use Rattle.std.specs.Prelude.{slice_index_or, slice_set, if◌then◌else◌, not, Result, Ok, Err, IsOk, MatchResult}
+use Rattle.std.specs.Prelude.{slice_index_or, slice_set, flat_map, if◌then◌else◌, not, Result, Ok, Err, IsOk, MatchResult}
 use Rattle.std.specs.List.{list_all}
 use Rattle.std.proofs.lemmas.List.{map-append, get_or_default}
 use Rattle.std.proofs.lemmas.List.Elements.{All-append}
@@ -22,17 +22,17 @@ use Rattle.event_walk.specs.Walk.{Walk, acts}
 use Rattle.watcher_api.specs.Attachment.{Attachment, calls_at}
 use Rattle.watcher_api.specs.Acting.{acts_of, walks_of, act_in, with_act, no_walk}
 use Rattle.instr_lists.specs.declared.sorts.Sort.{Sort}
-use Rattle.instr_lists.specs.declared.sorts.Sort.TheVariants.{Init}
+use Rattle.instr_lists.specs.declared.sorts.Sort.TheVariants.{Init, Block, Insn}
 use Rattle.instr_lists.specs.declared.slots.Slot.{Slot}
-use Rattle.instr_lists.specs.Sorts.{passes, sorts_of, IsInside}
+use Rattle.instr_lists.specs.Sorts.{passes, site_sorts, sorts_of, IsInside}
 use Rattle.instr_lists.specs.Lists.{Listed, HasClasses, IsPlaceOf, AreHeard}
 use Rattle.instr_lists.specs.Slots.{slots_in, slots_from, slots_of}
 use Rattle.instr_lists.specs.Delivery.{acts_with, act_at, all_act, each_hears, each_walks, StopsAtSlot}
-use Rattle.instr_lists.specs.Silence.{is_add, is_code_sort, only_adds, adds_alone, acts_each, AllAdd, word_told, words_of}
+use Rattle.instr_lists.specs.Silence.{is_add, is_code_sort, only_adds, adds_alone, acts_each, AllAdd, word_slots, code_slots, word_told, words_of}
 use Rattle.instr_lists.proofs.OneEvent.{acts_in, act_here, one_longer, looked_in}
 use Rattle.instr_lists.proofs.InARow.{take_here}
 use Rattle.instr_lists.proofs.Events.{table_is, hears, walk_on}
-use Rattle.instr_lists.proofs.Placing.{block_place, insn_place, all_long}
+use Rattle.instr_lists.proofs.Placing.{block_place, insn_place, no_site, at_word, inside_place}
 use Rattle.instr_lists.proofs.Unstored.{wrong, left, right, all_at, of_each, code_event, moved_by}
 
 -- what an add does is the same at each event, and it calls no box
@@ -182,3 +182,44 @@ word_more classes sets block k d ws below =
     ap (λ l. each_walks classes sets (as_events 0 0 l) ws) step
     ∙ (ap (λ l. each_walks classes sets l ws) (map-append code_event (words_of block k) (word_told s ∷ []))
     ∙ walk_on classes sets (as_events 0 0 (words_of block k)) (code_event (word_told s) ∷ []) ws)
+
+-- the slots of a whole block
+
+pub all_flat : {X Y : Type 0} (P : Y → Type 0) (f : X → List Y) (xs : List X) (d : X)
+    → ((k : ℕ) → k < length xs → All P (f (slice_index_or xs k d))) → All P (flat_map f xs)
+all_flat P f [] d each = λ n e below. absurd (omega (arith, below))
+all_flat P f (x ∷ xs) d each =
+    All-append P (f x) (flat_map f xs) (each 0 (omega arith)) (all_flat P f xs d (λ k below. each (suc k) (omega (arith, below))))
+
+pub sort_adds : (block : Stretch) (sets : List (ℕ × SetSpec)) (k j : ℕ) (sort : Sort) → k < length block.sites → j < 5
+    → slice_index_or (site_sorts (slice_index_or block.sites k no_site)) j Init ≡ sort
+    → adds_alone block sets ≡ true → AllAdd (acts_each sets) (slots_of sets sort)
+sort_adds block sets k j sort below small is adds =
+    subst (λ (x : Sort). AllAdd (acts_each sets) (slots_of sets x)) (at_word block.sites k j (5 * k + j) below small refl ∙ is)
+    (slots_add block sets (5 * k + j) (inside_place block.sites k j (5 * k + j) below small refl) adds)
+
+pub word_adds : (block : Stretch) (sets : List (ℕ × SetSpec)) (k : ℕ) → k < length block.sites → adds_alone block sets ≡ true
+    → AllAdd (acts_each sets) (word_slots sets (slice_index_or block.sites k no_site))
+word_adds block sets k below adds =
+    let s = slice_index_or block.sites k no_site in
+    sort_adds block sets k 1 (Insn s.pc s.class) below (omega arith) refl adds
+
+words_add : (block : Stretch) (sets : List (ℕ × SetSpec)) → adds_alone block sets ≡ true
+    → AllAdd (acts_each sets) (flat_map (word_slots sets) block.sites)
+words_add block sets adds =
+    all_flat (λ (x : Slot). is_add (act_at (acts_each sets) x) ≡ true) (word_slots sets) block.sites no_site
+    (λ k below. word_adds block sets k below adds)
+
+whole_adds : (block : Stretch) (sets : List (ℕ × SetSpec)) (sites : List Site) → block.sites ≡ sites → adds_alone block sets ≡ true
+    → AllAdd (acts_each sets) (code_slots sets sites)
+whole_adds block sets [] is adds = λ n d below. absurd (omega (arith, below))
+whole_adds block sets (s ∷ sites) is adds =
+    All-append (λ (x : Slot). is_add (act_at (acts_each sets) x) ≡ true) (slots_of sets (Block s.pc)) (flat_map (word_slots sets) (s ∷ sites))
+    (sort_adds block sets 0 0 (Block s.pc) (omega (arith, ap length is)) (omega arith)
+    (ap (λ (l : List Site). Block (slice_index_or l 0 no_site).pc) is) adds)
+    (subst (λ (l : List Site). AllAdd (acts_each sets) (flat_map (word_slots sets) l)) is (words_add block sets adds))
+
+pub whole_add : (block : Stretch) (sets : List (ℕ × SetSpec)) (slots : List Slot) → slots ≡ code_slots sets block.sites
+    → adds_alone block sets ≡ true → AllAdd (acts_each sets) slots
+whole_add block sets slots is adds =
+    subst (λ (l : List Slot). AllAdd (acts_each sets) l) (sym is) (whole_adds block sets block.sites refl adds)

@@ -44,11 +44,11 @@ other_sort sites j small =
 -- What filters let through, by the sort.
 
 module _ (classes : Classes) (f : Filter) where
-  block_same : (pc at n : ℕ) → at ≡ pc → passes f (Block at) ≡ lets_through classes f (what.Block pc n)
+  pub block_same : (pc at n : ℕ) → at ≡ pc → passes f (Block at) ≡ lets_through classes f (what.Block pc n)
   unfolding passes lets_through
   block_same pc at n same = ap (λ a. meet f.kinds KIND_BLOCK && is_within f a) same
 
-  insn_same : (pc at word : ℕ) (class : Class) → at ≡ pc → classes pc ≡ Some class
+  pub insn_same : (pc at word : ℕ) (class : Class) → at ≡ pc → classes pc ≡ Some class
       → passes f (Insn at class) ≡ lets_through classes f (what.Insn pc word)
   unfolding passes lets_through
   insn_same pc at word class same those =
@@ -88,7 +88,7 @@ pub at_word : (sites : List Site) (k j p : ℕ) → k < length sites → j < 5 �
 at_word sites k j p below small is =
     ap (λ m. slice_index_or (sorts_of sites) m Init) is ∙ word_sort sites k j no_site below small
 
-inside_place : (sites : List Site) (k j p : ℕ) → k < length sites → j < 5 → p ≡ 5 * k + j → p < length (sorts_of sites)
+pub inside_place : (sites : List Site) (k j p : ℕ) → k < length sites → j < 5 → p ≡ 5 * k + j → p < length (sorts_of sites)
 inside_place sites k j p below small is = omega (arith, all_long sites, below, small, is)
 
 pub access_at : (s : Site) (rw : ℕ) → 0 < rw → rw < 4 → slice_index_or (site_sorts s) (1 + rw) Init ≡ Mem s.pc s.class rw

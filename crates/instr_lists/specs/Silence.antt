@@ -1,6 +1,6 @@
 -- Blocks whose events need not be stored: those that nothing hears, and those at which all that is heard is an
 -- unconditional add, where the block starts or at a word.
-use Rattle.std.specs.Prelude.{◌≡◌, ℕ, zero, suc, Bool, true, false, not, ◌&&◌, ◌||◌, List, [], ◌∷◌, filter, map, take, All}
+use Rattle.std.specs.Prelude.{◌≡◌, ℕ, zero, suc, Bool, true, false, not, ◌&&◌, ◌||◌, List, [], ◌∷◌, ◌++◌, filter, flat_map, map, take, All}
 use Rattle.std.specs.List.{list_all}
 use Rattle.flat_model.specs.declared.events.Event.{Event}
 use Rattle.flat_model.specs.declared.events.What.{What}
@@ -17,6 +17,7 @@ use Rattle.instr_lists.specs.declared.sorts.Sort.{Sort}
 use Rattle.instr_lists.specs.declared.sorts.Sort.TheVariants.{Init, Block, Insn, Mem, Sys, SysRet, Exit}
 use Rattle.instr_lists.specs.declared.slots.Slot.{Slot}
 use Rattle.instr_lists.specs.Sorts.{passes, sorts_of}
+use Rattle.instr_lists.specs.Slots.{slots_of}
 use Rattle.instr_lists.specs.Delivery.{act_at}
 
 -- an act that adds to an entry, whatever the event and the entries are
@@ -66,6 +67,14 @@ acts_each sets = map (λ s. map (λ (sub : Sub). sub.act) s.1.subs) sets
 
 abbrev pub AllAdd : List (List Act) → List Slot → Type 0
 AllAdd acts slots = All (λ slot. is_add (act_at acts slot) ≡ true) slots
+
+-- the slots of a block that is gone through, in the order of its events: where it starts, and at each word
+abbrev pub word_slots : List (ℕ × SetSpec) → Site → List Slot
+word_slots sets s = slots_of sets (Insn s.pc s.class)
+
+abbrev pub code_slots : List (ℕ × SetSpec) → List Site → List Slot
+code_slots sets [] = []
+code_slots sets (s ∷ sites) = slots_of sets (Block s.pc) ++ flat_map (word_slots sets) (s ∷ sites)
 
 -- the Insn events of the first words of a block
 abbrev pub word_told : Site → What

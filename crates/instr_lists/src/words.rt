@@ -83,6 +83,61 @@ fn add_words<W: Watcher>(
     }
 }
 
+/// Lets them hear that the block starts and that its first words, at least one, are executed.
+fn add_first<W: Watcher>(
+    list: &BlockList,
+    words: usize,
+    attached: &mut Attached<W>,
+    asks: &mut Asks,
+)
+    requires these { acts_of attached.old ≡ acts_with list.now.sets }
+    requires adds { adds_alone list.now.block list.now.sets ≡ true }
+    requires some { 0 < words }
+    requires within { words ≤ length list.now.block.sites }
+    ensures same { acts_of attached.new ≡ acts_of attached.old }
+    ensures heard { (classes : Classes) → HasClasses classes list.now.block → walks_of asks.new.first attached.new
+        ≡ each_walks classes list.now.sets (as_events 0 0 (code_of list.now.block words)) (walks_of asks.old.first attached.old) }
+{
+    add_start(list, attached, asks);
+    add_words(list, words, attached, asks);
+}
+
+/// The same of all words.
+#[inline]
+fn add_whole<W: Watcher>(list: &BlockList, attached: &mut Attached<W>, asks: &mut Asks)
+    requires these { acts_of attached.old ≡ acts_with list.now.sets }
+    requires adds { adds_alone list.now.block list.now.sets ≡ true }
+    ensures same { acts_of attached.new ≡ acts_of attached.old }
+    ensures heard { (classes : Classes) → HasClasses classes list.now.block → walks_of asks.new.first attached.new
+        ≡ each_walks classes list.now.sets (as_events 0 0 (code_of list.now.block (length list.now.block.sites)))
+        (walks_of asks.old.first attached.old) }
+{
+    add_all(list.whole_slots(), attached, asks);
+}
+
+/// The same of any number of words.
+#[inline]
+fn add_code<W: Watcher>(
+    list: &BlockList,
+    words: usize,
+    attached: &mut Attached<W>,
+    asks: &mut Asks,
+)
+    requires these { acts_of attached.old ≡ acts_with list.now.sets }
+    requires adds { adds_alone list.now.block list.now.sets ≡ true }
+    requires within { words ≤ length list.now.block.sites }
+    ensures same { acts_of attached.new ≡ acts_of attached.old }
+    ensures heard { (classes : Classes) → HasClasses classes list.now.block → walks_of asks.new.first attached.new
+        ≡ each_walks classes list.now.sets (as_events 0 0 (code_of list.now.block words)) (walks_of asks.old.first attached.old) }
+{
+    if words == list.words() {
+        return add_whole(list, attached, asks);
+    }
+    if words > 0 {
+        add_first(list, words, attached, asks);
+    }
+}
+
 /// Delivers the events of a hart that has gone through the first `words` words of the block from its start, where all that
 /// is done at such events is to add where the block starts or at a word. The events need not have been stored: what they
 /// tell of the code follows from the block, and nothing hears the others.
@@ -95,10 +150,6 @@ pub fn deliver_words<W: Watcher>(list: &BlockList, words: usize, attached: &mut 
         → All (λ e. LiesIn list.now.block e.what) raw → code_in raw ≡ code_of list.now.block words
         → walks_of no_asks attached.new ≡ each_walks (classes_of image) list.now.sets raw (walks_of no_asks attached.old) }
 {
-    if words == 0 {
-        return;
-    }
     let mut asks = Asks::none();
-    add_start(list, attached, &mut asks);
-    add_words(list, words, attached, &mut asks);
+    add_code(list, words, attached, &mut asks);
 }
