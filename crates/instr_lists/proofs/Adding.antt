@@ -1,5 +1,5 @@
 -- Slots whose acts all add.
-use Rattle.std.proofs.Common.{◌≡◌, ◌<◌, ◌+◌, ◌*◌, ◌∙◌, ◌++◌, ◌∷◌, ◌&&◌, ◌||◌, [], ℕ, zero, suc, Bool, true, false, List, length, map, take}
+use Rattle.std.proofs.Common.{◌≡◌, ◌<◌, ◌+◌, ◌*◌, ◌∙◌, ◌++◌, ◌∷◌, ◌&&◌, ◌||◌, [], ℕ, zero, suc, true, false, List, length, map, take}
 use Rattle.std.proofs.Common.{refl, sym, ap, subst, arith, All, append_assoc}
 use Rattle.std.specs.Prelude.{slice_index_or, slice_set, flat_map, if◌then◌else◌, not, Result, Ok, Err, IsOk, MatchResult}
 use Rattle.std.specs.List.{list_all}
@@ -18,7 +18,7 @@ use Rattle.flat_model.specs.Step.{as_events}
 use Rattle.block_finder.specs.declared.blocks.Site.{Site}
 use Rattle.block_finder.specs.Block.{Stretch}
 use Rattle.event_walk.specs.Matches.{Classes}
-use Rattle.event_walk.specs.Walk.{Walk, acts}
+use Rattle.event_walk.specs.Walk.{Walk}
 use Rattle.watcher_api.specs.Attachment.{Attachment, calls_at}
 use Rattle.watcher_api.specs.Acting.{acts_of, walks_of, act_in, with_act, no_walk}
 use Rattle.instr_lists.specs.declared.sorts.Sort.{Sort}

@@ -1,7 +1,7 @@
 -- Events that need not be stored: those that nothing hears, and those of the code where all that is done is to add.
-use Rattle.std.proofs.Common.{◌≡◌, ◌<◌, ◌+◌, ◌*◌, ◌∙◌, ◌++◌, ◌∷◌, ◌&&◌, ◌||◌, [], ℕ, zero, suc, Bool, true, false, List, length, map}
+use Rattle.std.proofs.Common.{◌≡◌, ◌<◌, ◌+◌, ◌*◌, ◌∙◌, ◌∷◌, ◌&&◌, ◌||◌, [], ℕ, zero, suc, Bool, true, false, List, length, map}
 use Rattle.std.proofs.Common.{refl, sym, ap, subst, arith, All}
-use Rattle.std.specs.Prelude.{slice_index_or, if◌then◌else◌, cond, not, filter}
+use Rattle.std.specs.Prelude.{slice_index_or, if◌then◌else◌, cond, not}
 use Rattle.std.specs.List.{list_all}
 use Rattle.flat_model.specs.declared.events.Event.{Event}
 use Rattle.flat_model.specs.declared.events.What.{What}
@@ -14,13 +14,13 @@ use Rattle.flat_model.specs.declared.plugins.Sub.{Sub}
 use Rattle.flat_model.specs.Step.{as_events}
 use Rattle.block_finder.specs.Block.{Stretch}
 use Rattle.event_walk.specs.Matches.{Classes, matches}
-use Rattle.event_walk.specs.Walk.{Walk, walk_from, walk_sub, acts}
+use Rattle.event_walk.specs.Walk.{Walk, walk_from, acts}
 use Rattle.instr_lists.specs.declared.sorts.Sort.{Sort}
 use Rattle.instr_lists.specs.declared.sorts.Sort.TheVariants.{Init}
-use Rattle.instr_lists.specs.Sorts.{passes, sorts_of, IsInside, IsAccess, LiesIn}
-use Rattle.instr_lists.specs.Lists.{HasClasses, IsPlaceOf, IsSortOf}
+use Rattle.instr_lists.specs.Sorts.{sorts_of, LiesIn}
+use Rattle.instr_lists.specs.Lists.{HasClasses, IsPlaceOf}
 use Rattle.instr_lists.specs.Delivery.{each_hears, each_walks}
-use Rattle.instr_lists.specs.Silence.{is_add, is_code, is_code_sort, is_deaf, only_adds, at_all, is_silent, adds_alone, code_in}
+use Rattle.instr_lists.specs.Silence.{is_add, is_code, is_code_sort, is_deaf, only_adds, is_silent, adds_alone, code_in}
 use Rattle.instr_lists.proofs.Placing.{block_place, insn_place, mem_place, init_place, sys_place, ret_place, exit_place}
 use Rattle.instr_lists.proofs.Placing.{at_word, access_at, after_words, no_site}
 

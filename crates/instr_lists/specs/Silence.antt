@@ -14,7 +14,7 @@ use Rattle.flat_model.specs.declared.plugins.Sub.{Sub}
 use Rattle.block_finder.specs.declared.blocks.Site.{Site}
 use Rattle.block_finder.specs.Block.{Stretch}
 use Rattle.instr_lists.specs.declared.sorts.Sort.{Sort}
-use Rattle.instr_lists.specs.declared.sorts.Sort.TheVariants.{Init, Block, Insn, Mem, Sys, SysRet, Exit}
+use Rattle.instr_lists.specs.declared.sorts.Sort.TheVariants.{Block, Insn}
 use Rattle.instr_lists.specs.declared.slots.Slot.{Slot}
 use Rattle.instr_lists.specs.Sorts.{passes, sorts_of}
 use Rattle.instr_lists.specs.Slots.{slots_of}

@@ -93,11 +93,7 @@ fn push_words(sites: &[Site], sets: &[(u8, SetSpec)], slots: &mut Vec<Slot>) -> 
 }
 
 /// The slots of a block that is gone through.
-fn code_slots(
-    alloc: Global,
-    sites: &[Site],
-    sets: &[(u8, SetSpec)],
-) -> Result<Vec<Slot>, NoMemory>
+fn code_slots(alloc: Global, sites: &[Site], sets: &[(u8, SetSpec)]) -> Result<Vec<Slot>, NoMemory>
     ensures slots { IfOk result (λ slots. slots.items ≡ code_slots sets.now sites.now) }
 {
     let mut slots = Vec::new(alloc);

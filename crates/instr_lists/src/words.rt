@@ -117,12 +117,7 @@ fn add_whole<W: Watcher>(list: &BlockList, attached: &mut Attached<W>, asks: &mu
 
 /// The same of any number of words.
 #[inline]
-fn add_code<W: Watcher>(
-    list: &BlockList,
-    words: usize,
-    attached: &mut Attached<W>,
-    asks: &mut Asks,
-)
+fn add_code<W: Watcher>(list: &BlockList, words: usize, attached: &mut Attached<W>, asks: &mut Asks)
     requires these { acts_of attached.old ≡ acts_with list.now.sets }
     requires adds { adds_alone list.now.block list.now.sets ≡ true }
     requires within { words ≤ length list.now.block.sites }

@@ -1,4 +1,4 @@
-use Rattle.std.proofs.Common.{◌∙◌, refl}
+use Rattle.std.proofs.Common.{refl}
 use Rattle.flat_model.specs.declared.events.What.TheVariants as what
 use Rattle.instr_lists.proofs.Unstored.{code_event}
 use Rattle.instr_lists.proofs.Told.{first_heard}

@@ -1,4 +1,3 @@
-use Rattle.flat_model.specs.declared.events.What.TheVariants as what
 use Rattle.instr_lists.proofs.Events.{slots_there}
 use Rattle.instr_lists.proofs.Adding.{attached_add, added}
 use Rattle.instr_lists.proofs.words.add_word.Goals as goal

@@ -1,5 +1,4 @@
-use Rattle.std.proofs.Common.{◌≡◌, ◌∙◌, true, sym, ap, subst}
-use Rattle.instr_lists.specs.Sorts.{sorts_of}
+use Rattle.std.proofs.Common.{◌≡◌, ◌∙◌, sym, ap, subst}
 use Rattle.instr_lists.specs.Lists.{Listed}
 use Rattle.instr_lists.specs.Silence.{at_all, is_deaf, is_silent}
 use Rattle.instr_lists.proofs.Events.{has_classes}
