@@ -9,8 +9,8 @@ use Rattle.instr_lists.specs.declared.kept_lists.KeptList.{KeptList}
 use Rattle.instr_lists.specs.Caches.{MayServe, AreFrom, asked_for}
 use Rattle.delivery_tests.specs.Kept.{IsFor, AreFor}
 
-pub serves : (one : BlockIsOne) (image : Program) (generation : ℕ) (sets : List (ℕ × SetSpec)) (pc : ℕ) (block : Stretch) (kept : List KeptList)
-    → AreFor image sets kept → IsBlock image pc block → MayServe generation block sets kept
+pub serves : (one : BlockIsOne) (image : Program) (generation : ℕ) (sets : List (ℕ × SetSpec)) (pc : ℕ)
+    (block : Stretch) (kept : List KeptList) → AreFor image sets kept → IsBlock image pc block → MayServe generation block sets kept
 serves one image generation sets pc block kept are is n d below = record {
   same_sets = λ _. (are n d below).same_sets;
   same_block = λ at. one image pc (slice_index_or kept n d).list.block block

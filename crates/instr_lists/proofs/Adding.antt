@@ -28,7 +28,8 @@ use Rattle.instr_lists.specs.Sorts.{passes, site_sorts, sorts_of, IsInside}
 use Rattle.instr_lists.specs.Lists.{Listed, HasClasses, IsPlaceOf, AreHeard}
 use Rattle.instr_lists.specs.Slots.{slots_in, slots_from, slots_of}
 use Rattle.instr_lists.specs.Delivery.{acts_with, act_at, all_act, each_hears, each_walks, StopsAtSlot}
-use Rattle.instr_lists.specs.Silence.{is_add, is_code_sort, only_adds, adds_alone, acts_each, AllAdd, word_slots, code_slots, word_told, words_of}
+use Rattle.instr_lists.specs.Silence.{is_add, is_code_sort, only_adds, adds_alone, acts_each, AllAdd}
+use Rattle.instr_lists.specs.Silence.{word_slots, code_slots, word_told, words_of}
 use Rattle.instr_lists.proofs.OneEvent.{acts_in, act_here, one_longer, looked_in}
 use Rattle.instr_lists.proofs.InARow.{take_here}
 use Rattle.instr_lists.proofs.Events.{table_is, hears, walk_on}
@@ -119,8 +120,8 @@ pub record StandsAt (listed : Listed) (place : ℕ) (slots : List Slot) : Type 0
   pub within : place < length (sorts_of listed.block.sites)
   pub list : slots ≡ slots_of listed.sets (slice_index_or (sorts_of listed.block.sites) place Init)
 
-pub standing : (block : Stretch) (sets : List (ℕ × SetSpec)) (sorts : List Sort) (place : ℕ) (slots : List Slot) → sorts ≡ sorts_of block.sites
-    → place < length sorts → slots ≡ slots_of sets (slice_index_or sorts place Init)
+pub standing : (block : Stretch) (sets : List (ℕ × SetSpec)) (sorts : List Sort) (place : ℕ) (slots : List Slot)
+    → sorts ≡ sorts_of block.sites → place < length sorts → slots ≡ slots_of sets (slice_index_or sorts place Init)
     → StandsAt (record { block = block; sets = sets }) place slots
 standing block sets sorts place slots these within list = record {
   within = subst (λ (l : List Sort). place < length l) these within;
@@ -138,7 +139,8 @@ heard_at listed w place slots stands is = record {
 pub stand_add : (listed : Listed) (place : ℕ) (slots : List Slot) → StandsAt listed place slots
     → adds_alone listed.block listed.sets ≡ true → AllAdd (acts_each listed.sets) slots
 stand_add listed place slots stands adds =
-    subst (λ (l : List Slot). AllAdd (acts_each listed.sets) l) (sym stands.list) (slots_add listed.block listed.sets place stands.within adds)
+    subst (λ (l : List Slot). AllAdd (acts_each listed.sets) l) (sym stands.list)
+    (slots_add listed.block listed.sets place stands.within adds)
 
 pub start_heard : (listed : Listed) (slots : List Slot) → 0 < length listed.block.sites → StandsAt listed 0 slots
     → (n : ℕ) → AreHeard listed (what.Block listed.block.pc n) slots
@@ -165,11 +167,13 @@ pub added : (attached : List Attachment) (listed : Listed) (slots : List Slot) (
     → (classes : Classes) → HasClasses classes listed.block → (e : Event) → e.what ≡ w
     → now ≡ each_hears classes listed.sets e (walks_of asks attached)
 added attached listed slots asks now w these heard acted classes has e is =
-    hears attached listed e slots asks now these (subst (λ (x : What). AreHeard listed x slots) (sym is) heard) (Ok tt) (acted e) classes has
+    hears attached listed e slots asks now these (subst (λ (x : What). AreHeard listed x slots) (sym is) heard) (Ok tt)
+    (acted e) classes has
 
 -- the events of words, one word after the other
 
-pub word_more : (classes : Classes) (sets : List (ℕ × SetSpec)) (block : Stretch) (k : ℕ) (d : Site) (ws : List Walk) → k < length block.sites
+pub word_more : (classes : Classes) (sets : List (ℕ × SetSpec)) (block : Stretch) (k : ℕ) (d : Site) (ws : List Walk)
+    → k < length block.sites
     → each_walks classes sets (as_events 0 0 (words_of block (k + 1))) ws
     ≡ each_hears classes sets (code_event (word_told (slice_index_or block.sites k d)))
     (each_walks classes sets (as_events 0 0 (words_of block k)) ws)
@@ -214,7 +218,8 @@ whole_adds : (block : Stretch) (sets : List (ℕ × SetSpec)) (sites : List Site
     → AllAdd (acts_each sets) (code_slots sets sites)
 whole_adds block sets [] is adds = λ n d below. absurd (omega (arith, below))
 whole_adds block sets (s ∷ sites) is adds =
-    All-append (λ (x : Slot). is_add (act_at (acts_each sets) x) ≡ true) (slots_of sets (Block s.pc)) (flat_map (word_slots sets) (s ∷ sites))
+    All-append (λ (x : Slot). is_add (act_at (acts_each sets) x) ≡ true) (slots_of sets (Block s.pc))
+    (flat_map (word_slots sets) (s ∷ sites))
     (sort_adds block sets 0 0 (Block s.pc) (omega (arith, ap length is)) (omega arith)
     (ap (λ (l : List Site). Block (slice_index_or l 0 no_site).pc) is) adds)
     (subst (λ (l : List Site). AllAdd (acts_each sets) (flat_map (word_slots sets) l)) is (words_add block sets adds))

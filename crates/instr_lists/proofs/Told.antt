@@ -1,5 +1,6 @@
 -- The words of a block that were delivered without their events.
-use Rattle.std.proofs.Common.{◌≡◌, ◌<◌, ◌+◌, ◌*◌, ◌∙◌, ◌∷◌, [], ℕ, zero, suc, List, length, map, take, true, refl, sym, ap, subst, arith, All, Some}
+use Rattle.std.proofs.Common.{◌≡◌, ◌<◌, ◌+◌, ◌*◌, ◌∙◌, ◌∷◌, [], ℕ, zero, suc, List, length, map, take, All, Some}
+use Rattle.std.proofs.Common.{true, refl, sym, ap, subst, arith}
 use Rattle.std.specs.Prelude.{slice_index_or, flat_map}
 use Rattle.std.proofs.lemmas.List.{take_all}
 use Rattle.std.proofs.lemmas.List.Elements.{All-append}
@@ -53,7 +54,8 @@ with_asks : (asks later : List Ask) (sets : List Attachment) → asks_in (walks_
 unfolding head_or tail_of
 with_asks asks later [] same = refl
 with_asks asks later (a ∷ sets) same =
-    ap (λ x. walk_of a x ∷ walks_of asks sets) (ap head_or same) ∙ ap (λ l. walk_of a (ask_of a.plugin later) ∷ l) (with_asks asks later sets (ap tail_of same))
+    ap (λ x. walk_of a x ∷ walks_of asks sets) (ap head_or same)
+    ∙ ap (λ l. walk_of a (ask_of a.plugin later) ∷ l) (with_asks asks later sets (ap tail_of same))
 
 code_some : (block : Stretch) (words : ℕ) → 0 < words → code_of block words ≡ what.Block block.pc block.n ∷ words_of block words
 code_some block zero some = absurd (omega (arith, some))
@@ -143,7 +145,8 @@ whole_walk table classes listed e ws is adds has long (s ∷ sites) these =
     let place : s.pc ≡ block.pc =
     sym (ap (λ (x : Site). x.pc) first) ∙ (has.places 0 no_site below ∙ (let z : block.pc + 4 * 0 ≡ block.pc = omega arith in z)) in
     let all : words_of block (length (s ∷ sites)) ≡ map word_told (s ∷ sites) =
-    ap (λ (l : List Site). map word_told (take (length (s ∷ sites)) l)) these ∙ ap (map word_told) (take_all (length (s ∷ sites)) (s ∷ sites) (omega arith)) in
+    ap (λ (l : List Site). map word_told (take (length (s ∷ sites)) l)) these
+    ∙ ap (map word_told) (take_all (length (s ∷ sites)) (s ∷ sites) (omega arith)) in
     let next = each_hears classes sets (code_event start) ws in
     act_on table e (slots_of sets (Block s.pc)) (flat_map (word_slots sets) (s ∷ sites)) ws
     ∙ (ap (all_act table e (flat_map (word_slots sets) (s ∷ sites)))
@@ -153,8 +156,10 @@ whole_walk table classes listed e ws is adds has long (s ∷ sites) these =
     (λ f. block_same classes f block.pc s.pc block.n place) long)
     ∙ (by_words table classes sets is e (s ∷ sites) next
     (subst (λ (l : List Site). (k : ℕ) → k < length l → AllAdd table (word_slots sets (slice_index_or l k no_site))) these
-    (λ k here. subst (λ (l : List (List Act)). AllAdd l (word_slots sets (slice_index_or block.sites k no_site))) (sym is) (word_adds block sets k here adds)))
-    (subst (λ (l : List Site). (k : ℕ) → k < length l → classes (slice_index_or l k no_site).pc ≡ Some (slice_index_or l k no_site).class) these
+    (λ k here. subst (λ (l : List (List Act)). AllAdd l (word_slots sets (slice_index_or block.sites k no_site))) (sym is)
+    (word_adds block sets k here adds)))
+    (subst (λ (l : List Site). (k : ℕ) → k < length l
+    → classes (slice_index_or l k no_site).pc ≡ Some (slice_index_or l k no_site).class) these
     (λ k here. ap classes (has.places k no_site here) ∙ has.those k no_site here))
     (each_long classes (code_event start) sets ws ∙ long)
     ∙ ap (λ l. each_walks classes sets (as_events 0 0 l) next) (sym all)))

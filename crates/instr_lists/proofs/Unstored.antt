@@ -35,7 +35,8 @@ pub right : (a b : Bool) → (a && b) ≡ true → b ≡ true
 right true b is = is
 right false b is = wrong is
 
-pub all_at : {X : Type 0} (p : X → Bool) (xs : List X) (i : ℕ) (d : X) → i < length xs → list_all p xs ≡ true → p (slice_index_or xs i d) ≡ true
+pub all_at : {X : Type 0} (p : X → Bool) (xs : List X) (i : ℕ) (d : X) → i < length xs → list_all p xs ≡ true
+    → p (slice_index_or xs i d) ≡ true
 all_at p [] i d below all = absurd (omega (arith, below))
 all_at p (x ∷ xs) zero d below all = left (p x) (list_all p xs) all
 all_at p (x ∷ xs) (suc i) d below all = all_at p xs i d (omega (arith, below)) (right (p x) (list_all p xs) all)
@@ -189,7 +190,8 @@ keeps_ask classes e i (s ∷ subs) w adds =
     let rest = right (adds_to classes e s) (list_all (adds_to classes e) subs) adds in
     elim (matches classes s.filter e) as (λ b. (not b || (is_code e.what && is_add s.act)) ≡ true
     → (walk_from classes e (i + 1) subs (if b then acts s.act i e w else w)).asked ≡ w.asked) [
-      | true ↦ λ is. keeps_ask classes e (i + 1) subs (acts s.act i e w) rest ∙ kept_by s.act i e w (right (is_code e.what) (is_add s.act) is)
+      | true ↦ λ is. keeps_ask classes e (i + 1) subs (acts s.act i e w) rest
+          ∙ kept_by s.act i e w (right (is_code e.what) (is_add s.act) is)
       | false ↦ λ is. keeps_ask classes e (i + 1) subs w rest
     ] (left (adds_to classes e s) (list_all (adds_to classes e) subs) adds)
 
@@ -243,10 +245,12 @@ no_code : (classes : Classes) (e : Event) (sets : List (ℕ × SetSpec)) → is_
     → of_each (deaf_to classes e) sets ≡ true
 no_code classes e sets other adds =
     each_same (deaf_to classes e) (adds_to classes e) sets
-    (λ sub. or_none (not (matches classes sub.filter e)) ∙ ap (λ b. not (matches classes sub.filter e) || (b && is_add sub.act)) (sym other))
+    (λ sub. or_none (not (matches classes sub.filter e))
+    ∙ ap (λ b. not (matches classes sub.filter e) || (b && is_add sub.act)) (sym other))
     ∙ adds
 
-module _ (classes : Classes) (block : Stretch) (sets : List (ℕ × SetSpec)) (has : HasClasses classes block) (adds : adds_alone block sets ≡ true) where
+module _ (classes : Classes) (block : Stretch) (sets : List (ℕ × SetSpec)) (has : HasClasses classes block)
+    (adds : adds_alone block sets ≡ true) where
   pub no_asks_then : (es : List Event) → All (λ (e : Event). LiesIn block e.what) es → (ws : List Walk)
       → asks_in (each_walks classes sets es ws) ≡ asks_in ws
   unfolding each_walks

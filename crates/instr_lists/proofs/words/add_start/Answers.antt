@@ -8,7 +8,8 @@ add_all-requires-clause-there g c =
 
 pub add_all-requires-clause-add : goal.add_all-requires-clause-add
 add_all-requires-clause-add g c =
-    attached_add c.args.attached.now c.args.list.now.sets c.start_slots.result.now c.requires.these (c.start_slots.ensures.add c.requires.adds)
+    attached_add c.args.attached.now c.args.list.now.sets c.start_slots.result.now c.requires.these
+    (c.start_slots.ensures.add c.requires.adds)
 
 pub returns-clause-heard : goal.returns-clause-heard
 returns-clause-heard g c = λ classes has e n is.
