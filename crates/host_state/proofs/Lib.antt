@@ -1,3 +1,4 @@
+pub mod AllowedSets
 pub mod Placing
 pub mod Commits
 pub mod Filters
@@ -9,3 +10,4 @@ pub mod Parking
 pub mod Shelved
 pub mod Departing
 pub mod GivingBack
+pub mod Starting

@@ -9,6 +9,7 @@ mod arrivals;
 mod attaching;
 mod committing;
 mod leaving;
+mod opening;
 mod reading;
 mod returning;
 mod specs;
