@@ -19,3 +19,5 @@ pub mod Dones
 pub mod Tables
 pub mod Orders
 pub mod Backs
+pub mod Unplanned
+pub mod Withdrawals

@@ -9,3 +9,4 @@ pub mod Ordering
 pub mod Returning
 pub mod Closing
 pub mod Going
+pub mod Withdrawing

@@ -13,3 +13,4 @@ pub mod ordering;
 pub mod returning;
 pub mod taking;
 pub mod turning;
+pub mod withdrawing;
