@@ -9,7 +9,6 @@ pub fn unplanned_orders_pass_nothing_by()
 {}
 
 /// A withdrawal moves no set and lets every hart be, and the asks of its plug-in wait no longer.
-#[tactic(auto, using(crate::proofs::Withdrawals::withdrawals_move_nothing))]
 pub fn withdrawals_move_nothing()
     ensures law { WithdrawalsMoveNothing }
 {}
