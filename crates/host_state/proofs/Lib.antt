@@ -1,3 +1,4 @@
 pub mod Placing
 pub mod Commits
 pub mod Filters
+pub mod Asked

@@ -2,3 +2,4 @@ pub mod Tables
 pub mod Moving
 pub mod State
 pub mod Filters
+pub mod Asking
