@@ -2,3 +2,11 @@ pub mod Placing
 pub mod Commits
 pub mod Filters
 pub mod Asked
+pub mod Rows
+pub mod Shown
+pub mod WaitingSets
+pub mod Gathering
+pub mod Parking
+pub mod Shelved
+pub mod Departing
+pub mod GivingBack

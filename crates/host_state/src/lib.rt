@@ -7,9 +7,11 @@ pub use tasks::Task;
 
 mod arrivals;
 mod asking;
+mod attaching;
 mod committing;
 mod leaving;
 mod reading;
+mod returning;
 mod specs;
 mod states;
 mod tables;

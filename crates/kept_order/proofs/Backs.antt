@@ -105,13 +105,13 @@ true_within (b ∷ bs) zero is = omega arith
 true_within (b ∷ bs) (suc i) is = omega (arith, true_within bs i is)
 
 -- what a hart that may give a plug-in back has to do with it
-record Owes (run : Run) (h plugin : ℕ) (past : List Item) : Type 0 where
-  one : 1 ≤ plugin
-  most : plugin < 1 + length (plugins run past).plugins
-  hart : h < run.harts
-  owed : owed_by (plugins run past) plugin h ≡ true
+pub record Owes (run : Run) (h plugin : ℕ) (past : List Item) : Type 0 where
+  pub one : 1 ≤ plugin
+  pub most : plugin < 1 + length (plugins run past).plugins
+  pub hart : h < run.harts
+  pub owed : owed_by (plugins run past) plugin h ≡ true
 
-gives_owed : (run : Run) (h plugin : ℕ) (past : List Item) → may_give_back run h plugin past ≡ true → Owes run h plugin past
+pub gives_owed : (run : Run) (h plugin : ℕ) (past : List Item) → may_give_back run h plugin past ≡ true → Owes run h plugin past
 gives_owed run h plugin past may =
     let r = plugins run past in
     let owed : owes r h plugin ≡ true = first_true _ _ may in

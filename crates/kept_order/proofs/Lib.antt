@@ -21,3 +21,9 @@ pub mod Orders
 pub mod Backs
 pub mod Unplanned
 pub mod Withdrawals
+pub mod Gots
+pub mod Rows
+pub mod Asked
+pub mod Seats
+pub mod TellsInside
+pub mod InBlocks

@@ -293,7 +293,7 @@ none_parked Parked Idle o g q spec some f = absurd (false≢true f)
 none_parked Out Idle o g q spec some f = refl
 
 -- the plug-in has the set behind those that it had
-sets_more : (r : Plugins) (q : ℕ) (spec : SetSpec) → Admits r (Register q spec) q
+pub sets_more : (r : Plugins) (q : ℕ) (spec : SetSpec) → Admits r (Register q spec) q
     → sets_of (after_order (Register q spec) r) q ≡ sets_of r q ++ spec ∷ []
 sets_more r q spec a =
     let now = with_set (plugin_of r q) spec in

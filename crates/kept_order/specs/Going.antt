@@ -1,13 +1,11 @@
 -- What a runner knows while others hold the state, and while its hart goes through a Turn.
-use Rattle.std.specs.Prelude.{◌≡◌, ◌<◌, ◌≤◌, ◌+◌, ◌++◌, ◌∷◌, ℕ, true, false, Bool, not, is_some, List, [], Some, None}
+use Rattle.std.specs.Prelude.{◌≡◌, ◌<◌, ◌≤◌, ◌+◌, ◌++◌, ◌∷◌, ℕ, true, false, List, None}
 use Rattle.flat_model.specs.declared.journals.Item.{Item}
-use Rattle.flat_model.specs.declared.journals.Item.TheVariants.{Step, Left}
+use Rattle.flat_model.specs.declared.journals.Item.TheVariants.{Step}
 use Rattle.flat_model.specs.declared.limits.TheConstants.{BLOCK_WORDS}
-use Rattle.flat_model.specs.Image.{Program}
 use Rattle.flat_model.specs.Log.{steps}
 use Rattle.flat_model.specs.Registry.{plugin_of, has_left}
 use Rattle.flat_model.specs.Step.{steps_of}
-use Rattle.flat_model.specs.World.{HartState, Machine, Shared}
 use Rattle.flat_model.specs.Worlds.{world, hart_of, next_step}
 use Rattle.private_runs.specs.Runs.{AreOfRun}
 use Rattle.run_rules.specs.Guest.{Run, plugins}

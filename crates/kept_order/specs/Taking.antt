@@ -1,10 +1,14 @@
 -- What becomes of the stored state where a hart takes a set that waits for it.
-use Rattle.std.specs.Prelude.{◌≡◌, ◌≤◌, ◌-◌, ℕ, true, false, List, ◌∷◌, None, length}
+use Rattle.std.specs.Prelude.{◌≡◌, ◌≤◌, ◌-◌, ℕ, true, false, List, [], ◌∷◌, ◌++◌, None, length}
 use Rattle.flat_model.specs.declared.journals.Item.{Item}
-use Rattle.flat_model.specs.declared.journals.Item.TheVariants.{Got}
+use Rattle.flat_model.specs.declared.journals.Item.TheVariants.{Step, Ordered, GaveBack, Left, Told, Got, Took}
+use Rattle.flat_model.specs.Log.{total_steps}
+use Rattle.flat_model.specs.Worlds.{world}
 use Rattle.watcher_api.specs.Attachment.{with_set}
 use Rattle.run_rules.specs.Guest.{Run, plugins}
-use Rattle.run_rules.specs.Legal.{Legal, is_there, owes_any}
+use Rattle.run_rules.specs.Heard.{waiting}
+use Rattle.run_rules.specs.Due.{turn_length, next_line, wanted}
+use Rattle.run_rules.specs.Legal.{Legal, is_there, owes_any, asks_nothing, passes_nothing_by, runs}
 use Rattle.run_rules.specs.Places.{IsStateLog, is_with_hart, may_get, takes_all}
 use Rattle.run_order.specs.Sets.{attachment_of, sets_for}
 use Rattle.run_order.specs.Laws.{with_place}
@@ -36,3 +40,45 @@ TakenIsAll = (run : Run) (h : ℕ) (past : List Item) → Legal run past → IsS
     → is_there run h past ≡ true → owes_any run h past ≡ false
     → ((plugin : ℕ) → 1 ≤ plugin → plugin ≤ length (plugins run past).plugins → may_get run h plugin past ≡ false)
     → takes_all run h past ≡ true
+
+-- Takes alone.
+
+abbrev pub IsGot : Item → Type 0
+IsGot (Step hart) = ⊥
+IsGot (Ordered origin order) = ⊥
+IsGot (GaveBack hart plugin) = ⊥
+IsGot (Left hart) = ⊥
+IsGot (Told party plugin) = ⊥
+IsGot (Got hart plugin) = Unit {0}
+IsGot (Took party plugin) = ⊥
+
+-- items by which harts take sets, and no others
+abbrev pub AreGots : List Item → Type 0
+AreGots [] = Unit {0}
+AreGots (x ∷ xs) = IsGot x × AreGots xs
+
+-- what the rules see of a log is what they saw of it before
+pub record LittleIsChanged (t : Task) (past now : List Item) : Type 0 where
+  pub world : world t.machine t.mode now ≡ world t.machine t.mode past
+  pub plugins : plugins (task_run t) now ≡ plugins (task_run t) past
+  pub wanted : wanted (task_run t) now ≡ wanted (task_run t) past
+  pub line : next_line (task_run t) now ≡ next_line (task_run t) past
+  pub total : total_steps now ≡ total_steps past
+  pub turn : (h : ℕ) → turn_length h now ≡ turn_length h past
+  pub asks : (plugin h : ℕ) → waiting (task_run t) plugin h now ≡ waiting (task_run t) plugin h past
+  pub there : (h : ℕ) → is_there (task_run t) h now ≡ is_there (task_run t) h past
+  pub owes : (h : ℕ) → owes_any (task_run t) h now ≡ owes_any (task_run t) h past
+
+abbrev pub GotsChangeLittle : Type 0
+GotsChangeLittle = (t : Task) (more past : List Item) → AreGots more → LittleIsChanged t past (more ++ past)
+
+-- so a hart that may step still may
+pub record StillHolds (t : Task) (h : ℕ) (past now : List Item) : Type 0 where
+  pub there : is_there (task_run t) h past ≡ true → is_there (task_run t) h now ≡ true
+  pub owes_none : owes_any (task_run t) h past ≡ false → owes_any (task_run t) h now ≡ false
+  pub asks_nothing : asks_nothing (task_run t) h past ≡ true → asks_nothing (task_run t) h now ≡ true
+  pub passes_nothing_by : passes_nothing_by (task_run t) past ≡ true → passes_nothing_by (task_run t) now ≡ true
+  pub runs : runs (task_run t) h past ≡ true → runs (task_run t) h now ≡ true
+
+abbrev pub GotsKeepHartsGoing : Type 0
+GotsKeepHartsGoing = (t : Task) (h : ℕ) (more past : List Item) → AreGots more → StillHolds t h past (more ++ past)

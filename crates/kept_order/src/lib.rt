@@ -8,6 +8,7 @@ pub mod fitting;
 pub mod going;
 pub mod hearing;
 pub mod leaving;
+pub mod lying;
 pub mod opening;
 pub mod ordering;
 pub mod returning;

@@ -1,6 +1,6 @@
 //! Sets that a hart takes.
 
-ghost use Rattle.kept_order.specs.Taking.{TakesKeepOrder, TakesAddSets, TakenIsAll};
+ghost use Rattle.kept_order.specs.Taking.{TakesKeepOrder, TakesAddSets, TakenIsAll, GotsChangeLittle, GotsKeepHartsGoing};
 
 /// A hart that takes a set keeps the state in order.
 pub fn takes_keep_order()
@@ -17,4 +17,14 @@ pub fn takes_add_sets()
 #[tactic(auto, using(crate::proofs::Takes::taken_is_all))]
 pub fn taken_is_all()
     ensures law { TakenIsAll }
+{}
+
+/// Takes change nothing of what the rules see.
+pub fn gots_change_little()
+    ensures law { GotsChangeLittle }
+{}
+
+/// A hart that may step still may once sets were taken.
+pub fn gots_keep_harts_going()
+    ensures law { GotsKeepHartsGoing }
 {}

@@ -50,6 +50,13 @@ impl Journal {
         Ok(())
     }
 
+    /// How many more entries there is room for.
+    pub fn spare(&self) -> usize
+        ensures spare { result ≡ self.now.spare }
+    {
+        self.entries.capacity() - self.entries.len()
+    }
+
     /// Adds an entry. A Turn that follows a Turn of its hart is joined to it.
     pub fn push(&mut self, entry: Entry)
         requires room { 0 < self.old.spare }
