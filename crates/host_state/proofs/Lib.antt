@@ -2,6 +2,7 @@ pub mod AllowedSets
 pub mod Placing
 pub mod Commits
 pub mod Filters
+pub mod Asked
 pub mod Rows
 pub mod Shown
 pub mod WaitingSets
