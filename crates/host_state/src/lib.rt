@@ -15,3 +15,4 @@ mod specs;
 mod states;
 mod tables;
 mod tasks;
+mod turning;
