@@ -12,3 +12,4 @@ pub mod Shelved
 pub mod Departing
 pub mod GivingBack
 pub mod Starting
+pub mod WholeTurns

@@ -17,3 +17,4 @@ mod specs;
 mod states;
 mod tables;
 mod tasks;
+mod turning;
