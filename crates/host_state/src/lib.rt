@@ -6,6 +6,7 @@ pub use states::HostState;
 pub use tasks::Task;
 
 mod arrivals;
+mod asking;
 mod attaching;
 mod committing;
 mod leaving;
