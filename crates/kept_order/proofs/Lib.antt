@@ -27,3 +27,4 @@ pub mod TellsInside
 pub mod InBlocks
 pub mod Unplanned
 pub mod Withdrawals
+pub mod BackChanges
