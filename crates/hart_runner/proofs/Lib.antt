@@ -1,1 +1,2 @@
 pub mod GivingBacks
+pub mod Entered
