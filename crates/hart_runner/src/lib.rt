@@ -1,7 +1,10 @@
 //! The turns of a hart: its part of each hold of the shared state, and the calls of its boxes between holds.
 #![tactic(auto)]
 
+pub use runners::{Runner, Turned};
 pub use seats::Seat;
 
+mod delivering;
 mod entering;
+mod runners;
 mod seats;

@@ -13,12 +13,11 @@ use Rattle.flat_model.specs.declared.journals.Item.{Item}
 use Rattle.flat_model.specs.declared.journals.Item.TheVariants.{Ordered}
 use Rattle.flat_model.specs.declared.journals.Order.{Order}
 use Rattle.flat_model.specs.declared.journals.Origin.TheVariants.{Asked}
-use Rattle.flat_model.specs.declared.limits.TheConstants.{PLUGINS_MOST}
 use Rattle.flat_model.specs.Asks.{stays}
 use Rattle.flat_model.specs.Log.{log}
 use Rattle.flat_model.specs.Registry.{Plugins, plugin_of, refusal, after_order}
 use Rattle.baton_gate.specs.Logs.{GoesOn}
-use Rattle.baton_gate.proofs.LogLemmas.{goes_nowhere, goes_once, goes_on, goes_same}
+use Rattle.baton_gate.proofs.LogLemmas.{goes_once, goes_on}
 use Rattle.plug_registry.specs.State.{RegistryState}
 use Rattle.run_journal.specs.Journal.{JournalState}
 use Rattle.watcher_api.specs.Acting.{ask_of}
@@ -53,7 +52,8 @@ may_ask s now h plugin by is least asked none =
 
 legal : (s : StateValue) (h plugin : ℕ) (by : How) → IsSound s → MayAsk s h plugin by
     → Legal (task_run s.task) (asked_item h plugin by ∷ s.past)
-legal s h plugin by sound may = asks_stand (task_run s.task) h plugin (withdrawal plugin by) s.past sound.order.legal may.none may.least may.asked
+legal s h plugin by sound may =
+    asks_stand (task_run s.task) h plugin (withdrawal plugin by) s.past sound.order.legal may.none may.least may.asked
 
 is_allowed : (s : StateValue) (h plugin : ℕ) (by : How) → IsSound s → MayAsk s h plugin by
     → allowed (plugins (task_run s.task) s.past) (withdrawal plugin by) ≡ true
@@ -173,18 +173,6 @@ behind s now h plugin by past order sound view least asked none rising given ite
 pub behind_now : (s now : StateValue) (h plugin : ℕ) (past : List Item) → s ≡ now → IsBehind s h plugin past → IsBehind now h plugin past
 behind_now s now h plugin past is b = subst (λ (x : StateValue). IsBehind x h plugin past) is b
 
--- a plug-in that asks for nothing
-stay_if : (b : Bool) (ask : Ask) → (b ≡ true → ask ≡ Stay) → ask ≡ (if b then Stay else ask)
-stay_if true ask is = is refl
-stay_if false ask is = refl
-
-pub stays_quiet : (t : Task) (h plugin : ℕ) (past : List Item) → waiting (task_run t) plugin h past ≡ Stay → IsQuieted t h plugin past past
-stays_quiet t h plugin past is = record {
-  live = λ p one live. live;
-  asks = λ p one. stay_if (plugin == p) (waiting (task_run t) p h past)
-      (λ at. let e : p ≡ plugin = grind (arith, nat_tests, at) in ap (λ (k : ℕ). waiting (task_run t) k h past) e ∙ is);
-}
-
 -- The asks of all plug-ins, up to a number.
 
 pub record AsksSoFar (old now : StateValue) (h place : ℕ) (noted : List Ask) : Type 0 where
@@ -196,20 +184,6 @@ pub record AsksSoFar (old now : StateValue) (h place : ℕ) (noted : List Ask) :
   pub asks : (p : ℕ) → place < p → is_live (plugin_of (plugins (task_run now.task) now.past) p).state ≡ true
       → ask_of p noted ≡ waiting (task_run now.task) p h now.past
   pub room : old.journal.spare ≤ now.journal.spare + place
-
-pub begins : (s : StateValue) (h : ℕ) (noted : List Ask) → wanted (task_run s.task) s.past ≡ None
-    → s.registry.table ≡ plugins (task_run s.task) s.past
-    → ((p : ℕ) → 1 ≤ p → is_live (plugin_of s.registry.table p).state ≡ true → ask_of p noted ≡ waiting (task_run s.task) p h s.past)
-    → AsksSoFar s s h 0 noted
-begins s h noted none table asks = record {
-  asked = goes_nowhere (IsAskedBy h) s.past;
-  rest = refl;
-  unmoved = record { there = refl; sets = refl; specs = refl; world = refl; as_many = refl };
-  none = none;
-  quiet = λ p one most. absurd (omega (arith, one, most));
-  asks = λ p above live. asks p (omega (arith, above)) (ap (λ (r : Plugins). is_live (plugin_of r p).state) table ∙ live);
-  room = omega arith;
-}
 
 -- what one of them did
 pub record IsOneOn (old new : StateValue) (h plugin : ℕ) : Type 0 where
@@ -259,7 +233,8 @@ next old mid new h place plugin noted number before one =
       asks = λ p above live.
           let off : (plugin == p) ≡ false = higher plugin place p number above in
           let least : 1 ≤ p = omega (arith, above) in
-          let was = one.quieted.live p least (ap (λ (t : Task). is_live (plugin_of (plugins (task_run t) new.past) p).state) (sym task) ∙ live) in
+          let was =
+          one.quieted.live p least (ap (λ (t : Task). is_live (plugin_of (plugins (task_run t) new.past) p).state) (sym task) ∙ live) in
           before.asks p (omega (arith, above)) was
           ∙ sym (asks_now p least ∙ ap (λ (b : Bool). if b then Stay else waiting (task_run mid.task) p h mid.past) off);
       room = omega (arith, before.room, one.room);

@@ -1,5 +1,5 @@
 -- The orders that the boxes of a hart ask for.
-use Rattle.std.specs.Prelude.{◌≡◌, ◌≤◌, ◌==◌, ℕ, true, if◌then◌else◌, List, ◌∷◌, None, length}
+use Rattle.std.specs.Prelude.{◌≡◌, ◌≤◌, ◌==◌, ℕ, true, if◌then◌else◌, List, length}
 use Rattle.flat_model.specs.declared.plugins.Ask.TheVariants.{Stay}
 use Rattle.flat_model.specs.declared.journals.How.{How}
 use Rattle.flat_model.specs.declared.journals.How.TheVariants as how

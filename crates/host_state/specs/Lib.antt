@@ -4,3 +4,4 @@ pub mod State
 pub mod Filters
 pub mod Taking
 pub mod Asking
+pub mod Starting

@@ -32,7 +32,7 @@ fn withdrawal(plugin: u8, how: How) -> Order
 
 impl<W: Watcher, C: Closer<Held<W>>> HostState<W, C> {
     /// How many plug-ins there are.
-    fn plugins(&self) -> u8
+    fn plugin_count(&self) -> u8
         ensures count { result ≡ length (plugins (task_run self.now.task) self.now.past).plugins }
         ensures few { result ≤ 8 }
         ensures table { self.now.registry.table ≡ plugins (task_run self.now.task) self.now.past }
@@ -125,7 +125,7 @@ impl<W: Watcher, C: Closer<Held<W>>> HostState<W, C> {
             ≡ world self.old.task.machine self.old.task.mode self.old.past }
         ensures room { self.old.journal.spare ≤ self.new.journal.spare + 8 }
     {
-        for place in 0..self.plugins() {
+        for place in 0..self.plugin_count() {
             let ask = self.waiting_ask(no, place + 1, asks);
             self.ask_one(no, place + 1, ask);
         }

@@ -10,6 +10,7 @@ mod asking;
 mod attaching;
 mod committing;
 mod leaving;
+mod opening;
 mod reading;
 mod returning;
 mod specs;

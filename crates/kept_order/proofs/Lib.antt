@@ -19,12 +19,12 @@ pub mod Dones
 pub mod Tables
 pub mod Orders
 pub mod Backs
+pub mod Unplanned
+pub mod Withdrawals
 pub mod Gots
 pub mod Rows
 pub mod Asked
 pub mod Seats
 pub mod TellsInside
 pub mod InBlocks
-pub mod Unplanned
-pub mod Withdrawals
 pub mod BackChanges

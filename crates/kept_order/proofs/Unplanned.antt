@@ -1,5 +1,5 @@
 -- Behind an order that isn't the plan's the plan wants nothing, where it wanted nothing before: each line whose moment has come is judged.
-use Rattle.std.proofs.Common.{◌≡◌, ◌+◌, ◌<◌, ◌≤◌, ◌∷◌, [], ◌∙◌, ℕ, zero, suc, Bool, true, false, List, Option, Some, None}
+use Rattle.std.proofs.Common.{◌≡◌, ◌+◌, ◌<◌, ◌≤◌, ◌∷◌, [], ◌∙◌, ℕ, suc, Bool, true, false, List, Option, Some, None}
 use Rattle.std.proofs.Common.{refl, ap, arith, nat_le, inl, inr, cond}
 use Rattle.std.specs.Prelude.{length, slice_index_or, slice_get, find, option_map}
 use Rattle.std.specs.List.{count_by}
@@ -9,16 +9,15 @@ use Rattle.std.proofs.lemmas.Bool.{cases_Bool, leb-true, leb-false}
 use Rattle.std.proofs.lemmas.List.Sums.{sum_by-cons}
 use Rattle.flat_model.specs.declared.journals.Item.{Item}
 use Rattle.flat_model.specs.declared.journals.Item.TheVariants.{Ordered}
-use Rattle.flat_model.specs.declared.journals.Order.{Order}
 use Rattle.flat_model.specs.declared.journals.Order.TheVariants.{Install}
-use Rattle.flat_model.specs.declared.journals.Origin.{Origin}
 use Rattle.flat_model.specs.declared.journals.Origin.TheVariants.{Start, Script, Asked, Control}
 use Rattle.flat_model.specs.declared.journals.Timed.{Timed}
 use Rattle.flat_model.specs.Log.{total_steps}
 use Rattle.run_rules.specs.Guest.{Run}
-use Rattle.run_rules.specs.Due.{Line, numbered, is_due, must_stand, owed_line, come, next_line, start_orders, missing_install, line_item, wanted}
+use Rattle.run_rules.specs.Due.{Line, numbered, is_due, must_stand, owed_line}
+use Rattle.run_rules.specs.Due.{come, next_line, start_orders, missing_install, line_item, wanted}
 use Rattle.run_rules.proofs.Turns.{first_true, rest_true}
-use Rattle.kept_order.specs.Withdrawing.{IsUnplanned, UnplannedOrdersPassNothingBy}
+use Rattle.kept_order.specs.Withdrawing.{UnplannedOrdersPassNothingBy}
 
 fails : (b : Bool) → (b ≡ true → ⊥) → b ≡ false
 fails true off = absurd (off refl)

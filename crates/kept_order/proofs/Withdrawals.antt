@@ -1,7 +1,7 @@
 -- Withdrawals: when they may stand, and what they leave as it was.
-use Rattle.std.proofs.Common.{◌≡◌, ◌==◌, ◌&&◌, ◌+◌, ◌-◌, ◌<◌, ◌≤◌, ◌∷◌, [], ◌∙◌, ℕ, zero, suc, Bool, true, false, not, List}
-use Rattle.std.proofs.Common.{Option, Some, None, refl, sym, ap, subst, arith, inl, inr, length, map, nat_lt, nat_le}
-use Rattle.std.specs.Prelude.{if◌then◌else◌, slice_index_or, slice_set, is_some}
+use Rattle.std.proofs.Common.{◌≡◌, ◌==◌, ◌&&◌, ◌-◌, ◌≤◌, ◌∷◌, [], ◌∙◌, ℕ, Bool, true, false, not, List}
+use Rattle.std.proofs.Common.{Option, Some, None, refl, sym, ap, subst, arith, inl, inr, length, nat_lt, nat_le}
+use Rattle.std.specs.Prelude.{if◌then◌else◌, slice_set, is_some}
 use Rattle.std.specs.Cmp.Derive.{both_true}
 use Rattle.std.specs.List.{filter_map, range_with_len}
 use Rattle.std.proofs.lemmas.Bool.{cases_Bool, false≢true, lt-ltb, leb-false}
@@ -15,33 +15,32 @@ use Rattle.flat_model.specs.declared.journals.Item.TheVariants.{Step, Ordered, G
 use Rattle.flat_model.specs.declared.journals.Order.{Order}
 use Rattle.flat_model.specs.declared.journals.Order.TheVariants.{Install, Register, Reset, Uninstall}
 use Rattle.flat_model.specs.declared.journals.Origin.{Origin}
-use Rattle.flat_model.specs.declared.journals.Origin.TheVariants.{Asked}
 use Rattle.flat_model.specs.declared.journals.PlugState.{PlugState}
 use Rattle.flat_model.specs.declared.journals.PlugState.TheVariants.{Live, Idle, Resetting, Leaving, Gone}
 use Rattle.flat_model.specs.declared.limits.TheConstants.{PLUGINS_MOST}
 use Rattle.flat_model.specs.declared.orders.OrderRefusal.{OrderRefusal}
-use Rattle.flat_model.specs.Registry.{Plugins, Plugin, registry, plugin_of, sets_of, is_installed, after_order, after_back, after_done, after_leave}
+use Rattle.flat_model.specs.Registry.{Plugins, Plugin, registry, plugin_of, sets_of, is_installed, after_order}
 use Rattle.flat_model.specs.Registry.{with_plugin, withdrawn, without_hart, done_state, next_state}
 use Rattle.flat_model.specs.Registry.{refusal, state_refusal, count_refusal, set_refusal, box_refusal, first, refused_if}
 use Rattle.flat_model.specs.Worlds.{world}
 use Rattle.run_rules.specs.Guest.{Run, plugins}
-use Rattle.run_rules.specs.Due.{allowed, wanted}
-use Rattle.run_rules.specs.Heard.{progress, no_set, is_live, last_set, waiting}
-use Rattle.run_rules.specs.Legal.{Legal, is_there, asked_order, passes_nothing_by}
-use Rattle.run_rules.specs.Places.{place_of, is_with_hart, registers, withdraws}
+use Rattle.run_rules.specs.Due.{allowed}
+use Rattle.run_rules.specs.Heard.{progress, is_live, waiting}
+use Rattle.run_rules.specs.Legal.{Legal, is_there, asked_order}
+use Rattle.run_rules.specs.Places.{place_of, is_with_hart, withdraws}
 use Rattle.run_rules.proofs.Fitting.{reset_admitted, uninstall_admitted, beyond, other_place, same_place, number_is}
 use Rattle.run_rules.proofs.Fitting.{installed_from, installed_within}
 use Rattle.run_rules.proofs.Growing.{fresh}
 use Rattle.run_rules.proofs.Keeping.{order_sets}
 use Rattle.run_rules.proofs.Turns.{rest_true, same}
-use Rattle.run_order.specs.Sets.{placed_at, sets_for}
+use Rattle.run_order.specs.Sets.{placed_at}
 use Rattle.run_order.specs.InOrder.{task_run}
-use Rattle.kept_order.specs.Hearing.{spec_at, specs_for}
+use Rattle.kept_order.specs.Hearing.{spec_at}
 use Rattle.kept_order.specs.Ordering.{IsWithdrawal}
 use Rattle.kept_order.specs.Withdrawing.{WithdrawalsMoveNothing, LiveMayBeWithdrawn, AsksStand, PluginsAreFew}
 use Rattle.kept_order.proofs.Arrivals.{last_spec}
 use Rattle.kept_order.proofs.Notices.{gives_same}
-use Rattle.kept_order.proofs.Orders.{IsNaming, withdrawal_names, registers_none, same_long, off_place, off_placed}
+use Rattle.kept_order.proofs.Orders.{withdrawal_names, registers_none, same_long, off_place, off_placed}
 
 -- What a withdrawal leaves as it was.
 
@@ -108,7 +107,8 @@ waits_if run h origin order p past is one may =
     let sets = sets_of now p in
     elim (cases_Bool (withdraws order p)) [
       | inl at ↦
-          dead_waits (is_installed now p) (is_live (plugin_of now p).state) (progress run (last_spec sets) p (length sets - 1) h past).walk.asked
+          dead_waits (is_installed now p) (is_live (plugin_of now p).state)
+          (progress run (last_spec sets) p (length sets - 1) h past).walk.asked
           (live ∙ ap (λ (b : Bool). not b && is_live (plugin_of r p).state) at)
           ∙ sym (ap (λ (b : Bool). if b then asks.Stay else waiting run p h past) at)
       | inr off ↦
@@ -204,11 +204,13 @@ unfolding Legal
 asks_stand run h p order past legal none one is =
     let r = plugins run past in
     let asked = asked_by p (waiting run p h past) order is in
-    let live : is_live (plugin_of r p).state ≡ true = rest_true (is_installed r p) _ (asked_where _ p _ order is) in
-    (legal, record {
-      allowed = ap (λ (o : Option OrderRefusal). not (is_some o)) (live_may_be_withdrawn r order p asked.withdrawal asked.of_it one live);
-      given = (ap (λ (o : Option Item). not (is_some o)) none, is);
-    })
+    let live : is_live (plugin_of r p).state ≡ true = rest_true (is_installed r p) _ (asked_where _ p _ order is) in (
+      legal,
+      record {
+        allowed = ap (λ (o : Option OrderRefusal). not (is_some o)) (live_may_be_withdrawn r order p asked.withdrawal asked.of_it one live);
+        given = (ap (λ (o : Option Item). not (is_some o)) none, is);
+      },
+    )
 
 -- How many plug-ins there are.
 
@@ -228,7 +230,8 @@ few_more : (r : Plugins) (spec : SetSpec) → allowed r (Install spec) ≡ true 
 unfolding refusal count_refusal
 few_more r spec may =
     let room = leb-false PLUGINS_MOST (length r.plugins)
-    (never (nat_le PLUGINS_MOST (length r.plugins)) _ (first_none (count_refusal r) (first (set_refusal spec) (box_refusal r spec)) (unrefused _ may))) in
+    (never (nat_le PLUGINS_MOST (length r.plugins)) _
+    (first_none (count_refusal r) (first (set_refusal spec) (box_refusal r spec)) (unrefused _ may))) in
     omega (arith, room, length-append r.plugins (fresh r spec ∷ []))
 
 pub plugins_are_few : PluginsAreFew

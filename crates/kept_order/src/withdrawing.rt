@@ -1,6 +1,7 @@
 //! Orders of boxes and controllers, and what the withdrawal of a set leaves as it was.
 
-ghost use Rattle.kept_order.specs.Withdrawing.{UnplannedOrdersPassNothingBy, WithdrawalsMoveNothing, LiveMayBeWithdrawn, AsksStand, PluginsAreFew};
+ghost use Rattle.kept_order.specs.Withdrawing.{UnplannedOrdersPassNothingBy, WithdrawalsMoveNothing};
+ghost use Rattle.kept_order.specs.Withdrawing.{LiveMayBeWithdrawn, AsksStand, PluginsAreFew};
 
 /// Behind an order of a box or a controller the plan wants nothing, where it wanted nothing before.
 #[tactic(auto, using(crate::proofs::Unplanned::unplanned_orders_pass_nothing_by))]

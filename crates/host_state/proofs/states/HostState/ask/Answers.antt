@@ -18,4 +18,4 @@ loop-place-preserved g c =
 pub returns-clause-quiet : goal.returns-clause-quiet
 returns-clause-quiet g c =
     all_quiet c.args.self.now c.loop-place.self c.args.no c.loop-place.place c.args.asks.now.first c.loop-place.invariant
-    (omega (arith, c.plugins-place-end.ensures.count))
+    (omega (arith, c.plugin_count-place-end.ensures.count))
