@@ -2,6 +2,6 @@ pub mod Tables
 pub mod Moving
 pub mod State
 pub mod Filters
-pub mod Asking
 pub mod Taking
+pub mod Asking
 pub mod Starting

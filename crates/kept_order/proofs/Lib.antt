@@ -27,3 +27,4 @@ pub mod Asked
 pub mod Seats
 pub mod TellsInside
 pub mod InBlocks
+pub mod BackChanges

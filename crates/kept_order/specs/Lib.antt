@@ -9,5 +9,5 @@ pub mod Ordering
 pub mod Returning
 pub mod Closing
 pub mod Going
-pub mod Withdrawing
 pub mod Lying
+pub mod Withdrawing
