@@ -13,5 +13,7 @@ mod reading;
 mod returning;
 mod specs;
 mod states;
+mod summing;
 mod tables;
 mod tasks;
+mod wholeness;
