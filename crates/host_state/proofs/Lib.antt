@@ -10,3 +10,4 @@ pub mod Shelved
 pub mod Departing
 pub mod GivingBack
 pub mod Finishing
+pub mod KeptClosers

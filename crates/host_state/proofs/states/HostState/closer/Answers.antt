@@ -1,13 +1,12 @@
-use Rattle.std.proofs.Common.{rules, ◌≡◌, ◌<◌, ◌≤◌, ◌-◌, ◌&&◌, not, if◌then◌else◌, Some, None, map, option_map, option_copied, ℕ, ◌+◌, ◌*◌, length, ◌/◌, ◌%◌, Bool, true, false, nat_eq, nat_lt, List, [], ◌∷◌, ◌++◌, slice_index_or, slice_set, bit_and, bit_or, Fits, w8, w32, w64, Bor, MutBor}
-use Rattle.flat_model.specs.Registry.{is_installed}
-use Rattle.run_order.specs.Sets.{as_notice, notices_of, is_closing_out}
-use Rattle.run_order.specs.InOrder.{task_run}
+use Rattle.std.proofs.Common.{◌∙◌, refl, map, ap, None}
+use Rattle.std.specs.Prelude.{slice_index_or}
+use Rattle.run_order.specs.Sets.{as_notice}
+use Rattle.host_state.proofs.KeptClosers.{closer_shown}
 use Rattle.host_state.proofs.states.HostState.closer.Goals as goal
 
--- src/summing.rt:22:9
-pub returns-in_err-get : goal.returns-in_err-get
-returns-in_err-get g c = ?
-
--- src/summing.rt:14:5
 pub returns : goal.returns
-returns g c = ?
+returns g c = record {
+  closer = closer_shown (λ x. map as_notice (g.C.Closer.notices x)) c.args.self.now _ c.self.view_is c.self.invariant
+      c.self.inside.closers.items refl c.args.plugin c.from.result c.if-plugin-eq0.false c.from.ensures _
+      (c.closer_at.ensures.closer ∙ ap (λ xs. slice_index_or xs c.from.result None) c.as_slice.ensures.value);
+}
