@@ -13,3 +13,5 @@ pub mod Departing
 pub mod GivingBack
 pub mod Starting
 pub mod WholeTurns
+pub mod Finishing
+pub mod KeptClosers
