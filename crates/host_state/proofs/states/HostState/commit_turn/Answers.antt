@@ -1,10 +1,9 @@
-use Rattle.std.proofs.Common.{◌≡◌, ◌+◌, ◌<◌, ◌^◌, ◌∙◌, ℕ, true, refl, sym, subst, ap, arith}
+use Rattle.std.proofs.Common.{◌≡◌, ◌+◌, ◌<◌, ◌^◌, sym, subst, arith}
 use Rattle.flat_model.specs.Log.{steps}
-use Rattle.flat_model.specs.Worlds.{hart_of, world}
+use Rattle.flat_model.specs.Worlds.{hart_of}
 use Rattle.flat_model.specs.World.{HartState, IsHart}
 use Rattle.rv_exec.specs.Sharing.{shared_of}
 use Rattle.run_rules.specs.Legal.{Legal}
-use Rattle.run_rules.specs.Places.{IsStateLog}
 use Rattle.run_order.specs.InOrder.{task_run}
 use Rattle.host_state.specs.State.{StateValue}
 use Rattle.host_state.proofs.Commits.{fits}
