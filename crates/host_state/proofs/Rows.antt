@@ -14,8 +14,6 @@ use Rattle.run_rules.specs.Legal.{Legal, runs}
 use Rattle.run_rules.specs.Laws.{MayTurn}
 use Rattle.run_order.specs.InOrder.{Task, task_run}
 
-
-
 suc_out : (n k : ℕ) → n + suc k ≡ suc (n + k)
 suc_out n k = omega arith
 
@@ -26,7 +24,7 @@ and_then a b = record { hart = b.hart; shared = b.shared; events = a.events ++ b
 pub in_a_row : (m : Machine) (h n k : ℕ) (hart : HartState) (shared : Shared)
     → steps_of m h (n + k) hart shared
     ≡ and_then (steps_of m h n hart shared)
-      (steps_of m h k (steps_of m h n hart shared).hart (steps_of m h n hart shared).shared)
+    (steps_of m h k (steps_of m h n hart shared).hart (steps_of m h n hart shared).shared)
 unfolding steps_of
 in_a_row m h n zero hart shared =
     let a = steps_of m h n hart shared in
