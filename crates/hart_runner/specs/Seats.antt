@@ -46,7 +46,8 @@ abbrev pub Own : ℕ → List Item → List Item → Type 0
 Own h seen past = GoesOn (λ i. party i ≡ h) seen past
 
 -- in a hold, once asks, Backs and arrived sets are dealt with
-pub record HasEntered (no : ℕ) (seen : List Item) (s : StateValue) (attached : List Attachment) (filters : List (ℕ × SetSpec)) : Type 0 where
+pub record HasEntered (no : ℕ) (seen : List Item) (s : StateValue) (attached : List Attachment) (filters : List (ℕ × SetSpec))
+    : Type 0 where
   pub own : Own no seen s.past
   pub there : is_there (task_run s.task) no s.past ≡ true
   pub owes_none : owes_any (task_run s.task) no s.past ≡ false

@@ -1,6 +1,7 @@
 //! What the sets of plug-ins have made of a run.
 
-ghost use Rattle.std.specs.Prelude.{◌≡◌, ◌<◌, ◌≤◌, ◌-◌, ◌&&◌, not, if◌then◌else◌, Some, None, map, option_map, option_copied, slice_index_or};
+ghost use Rattle.std.specs.Prelude.{◌≡◌, ◌<◌, ◌≤◌, ◌-◌, ◌&&◌, not, if◌then◌else◌, Some, None};
+ghost use Rattle.std.specs.Prelude.{map, option_map, option_copied, slice_index_or};
 ghost use Rattle.flat_model.specs.Registry.{is_installed};
 ghost use Rattle.run_order.specs.Sets.{as_notice, notices_of, is_closing_out};
 ghost use Rattle.run_order.specs.InOrder.{task_run};
