@@ -11,6 +11,7 @@ mod attaching;
 mod committing;
 mod leaving;
 mod opening;
+mod ordering;
 mod reading;
 mod returning;
 mod specs;
