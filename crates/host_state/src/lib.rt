@@ -13,6 +13,7 @@ mod leaving;
 mod opening;
 mod ordering;
 mod reading;
+mod recording;
 mod returning;
 mod specs;
 mod states;
