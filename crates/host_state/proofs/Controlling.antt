@@ -25,9 +25,9 @@ use Rattle.kept_order.proofs.Orders.{withdrawals_keep_order, same_long, withdraw
 use Rattle.kept_order.proofs.Orders.{registrations_keep_order}
 use Rattle.kept_order.proofs.Withdrawals.{plugins_are_few}
 use Rattle.kept_order.proofs.Gone.{as_many}
-use Rattle.plug_registry.proofs.Allowed.{may_register}
+use Rattle.plug_registry.proofs.Allowed.{may_install, may_register}
 use Rattle.watcher_api.specs.Attachment.{Attachment, opening}
-use Rattle.host_state.proofs.AllowedSets.{IsAttachable, register_attachable}
+use Rattle.host_state.proofs.AllowedSets.{IsAttachable, install_attachable, register_attachable}
 use Rattle.host_state.proofs.Shelved.{waiting_long}
 use Rattle.host_state.specs.State.{StateValue, IsSound, stored_of}
 
@@ -194,3 +194,22 @@ row_set f rows now i j row shown written is place =
 pub row_below : {A B : Type 0} (f : A → B) (rows : Vec A Global) (i j : ℕ) → i ≡ j → j - 1 < length (map f rows.items)
     → i - 1 < vec_len rows
 row_below f rows i j is below = omega (arith, below, is, length-map rows.items f)
+
+-- An install.
+
+-- there is room for one more, and its set has boxes
+pub record CanInstall (s : StateValue) (spec : SetSpec) : Type 0 where
+  pub number : length s.registry.table.plugins + 1 ≤ 8
+  pub attachable : IsAttachable spec
+  pub boxes : s.task.machine.harts * calling spec.subs ≤ s.boxes
+  pub closer : 0 < s.spare_closers
+
+pub can_install : (s : StateValue) (spec : SetSpec) → IsSound s → refusal s.registry.table (Install spec) ≡ None → CanInstall s spec
+can_install s spec sound allowed =
+    let may = may_install s.registry.table spec allowed in
+    record {
+      number = omega (arith, may.few);
+      attachable = install_attachable s.registry.table spec allowed;
+      boxes = omega (arith, may.boxes, taken_by s spec sound, sound.boxes);
+      closer = omega (arith, may.few, sound.closers);
+    }
