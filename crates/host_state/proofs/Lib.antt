@@ -15,3 +15,4 @@ pub mod Starting
 pub mod WholeTurns
 pub mod Finishing
 pub mod KeptClosers
+pub mod Controlling

@@ -5,3 +5,4 @@ pub mod Filters
 pub mod Taking
 pub mod Asking
 pub mod Starting
+pub mod Ordering

@@ -12,6 +12,7 @@ pub use holders::Held;
 pub use racks::Rack;
 pub use recorders::{Recorder, rows_of};
 pub use refusers::Refuser;
+pub use seats::Seats;
 pub use watchers::{Watcher, asked};
 
 mod asks;
@@ -23,4 +24,5 @@ mod holders;
 mod racks;
 mod recorders;
 mod refusers;
+mod seats;
 mod watchers;

@@ -1,10 +1,10 @@
 use Rattle.std.proofs.Common.{◌≡◌, ◌<◌, ◌≤◌, ◌∙◌, length, List, All, subst, sym, ap, arith, slice_index_or}
 use Rattle.std.proofs.lemmas.List.{length-replicate}
 use Rattle.flat_model.specs.declared.plugins.Sub.{Sub}
-use Rattle.watcher_api.specs.Attachment.{IsWithin}
+use Rattle.watcher_api.specs.Attachment.{IsWithin, Room}
 use Rattle.watcher_api.specs.HeldActs.{act_of}
 use Rattle.watcher_api.proofs.Opening.{one_more, all_within, as_long}
-use Rattle.watcher_api.proofs.attached_sets.AttachedSet.new.Goals as goal
+use Rattle.watcher_api.proofs.attached_sets.AttachedSet.seated.Goals as goal
 
 pub with_box-requires-clause-enough : goal.with_box-requires-clause-enough
 with_box-requires-clause-enough g c does =
@@ -24,8 +24,9 @@ invariant_of-result g c =
     let same = c.as_slice-sub-items.ensures.subscriptions in
     let whole : length subs ≤ k = subst (λ (l : List Sub). length l ≤ k) same c.loop-sub-test.false in
     let acts = c.loop-sub.invariant.acts in
-    let entries : length c.in_ok-column.column ≡ c.args.spec.now.entries =
-    ap length c.in_ok-column.ensures ∙ length-replicate c.args.spec.now.entries 0 in (
+    let entries : length c.seats.inside.column ≡ c.args.spec.now.entries =
+    ap (λ (r : Room). length r.column) c.seats.view_is ∙ ap length c.requires.room.column
+    ∙ length-replicate c.args.spec.now.entries 0 in (
       c.requires.number,
       c.requires.most,
       omega (arith, as_long k held subs whole acts, c.requires.subs),

@@ -2,7 +2,7 @@ use Rattle.std.proofs.Common.{◌≡◌, ◌+◌, ◌≤◌, [], length, map, ta
 use Rattle.std.specs.Prelude.{vec_len, vec_capacity}
 use Rattle.flat_model.specs.Acts.{calling}
 use Rattle.watcher_api.specs.HeldActs.{act_of, heard_of}
-use Rattle.watcher_api.proofs.attached_sets.AttachedSet.new.Given as goal
+use Rattle.watcher_api.proofs.attached_sets.AttachedSet.seated.Given as goal
 
 abbrev pub invariant-loop-sub : goal.invariant-loop-sub
 invariant-loop-sub g l = record {
