@@ -25,3 +25,5 @@ pub mod Asked
 pub mod Seats
 pub mod TellsInside
 pub mod InBlocks
+pub mod Standing
+pub mod Tellings
