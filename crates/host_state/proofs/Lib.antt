@@ -11,3 +11,4 @@ pub mod Departing
 pub mod GivingBack
 pub mod Finishing
 pub mod KeptClosers
+pub mod KeptSets

@@ -1,18 +1,48 @@
-//! What the sets of plug-ins have made of a run.
+//! What the sets of plug-ins have made of a run that is whole.
 
-ghost use Rattle.std.specs.Prelude.{◌≡◌, ◌<◌, ◌≤◌, ◌-◌, ◌&&◌, not, if◌then◌else◌, Some, None, map, option_map, option_copied, slice_index_or};
-ghost use Rattle.flat_model.specs.Registry.{is_installed};
-ghost use Rattle.run_order.specs.Sets.{as_notice, notices_of, is_closing_out};
+ghost use Rattle.std.specs.Prelude.{◌≡◌, ◌<◌, ◌≤◌, ◌-◌, ◌&&◌, not, true, false, if◌then◌else◌, Some, None, length, map};
+ghost use Rattle.std.specs.Prelude.{option_map, option_copied, slice_index_or, is_some};
+ghost use Rattle.std.specs.Option.{option_or};
+ghost use Rattle.flat_model.specs.Columns.{entry_sum};
+ghost use Rattle.flat_model.specs.Registry.{is_installed, plugin_of, sets_of, ending_of, has_left};
+ghost use Rattle.run_rules.specs.Heard.{is_live, column, last_set};
+ghost use Rattle.run_rules.specs.Legal.{Whole};
+ghost use Rattle.run_order.specs.Sets.{attachment_of, harts_of, as_notice, notices_of, is_closing_out};
 ghost use Rattle.run_order.specs.InOrder.{task_run};
+ghost use Rattle.kept_order.specs.Summing.{HasSet, set_made};
+ghost use Rattle.host_state.specs.Registered.{registered};
+ghost use Rattle.host_state.specs.Tables.{rows_of, row_at};
 
+use crate::arrivals::Arrival;
 use crate::states::HostState;
-use watcher_api::{Closer, Held, Watcher};
+use watcher_api::{AttachedSet, Closer, Held, Returned, Watcher};
 
 /// The closer at a place.
 fn closer_at<C>(closers: &[Option<C>], place: usize) -> Option<&C>
     ensures closer { option_copied result ≡ slice_index_or closers.now place None }
 {
     closers.get(place)?.as_ref()
+}
+
+/// The set that waits at a place, or is parked there where none waits.
+fn set_at<'a, W: Watcher>(
+    waiting: &'a [Vec<Option<Arrival<W>>>],
+    parked: &'a [Vec<Option<AttachedSet<W>>>],
+    row: usize,
+    place: usize,
+) -> Option<&'a AttachedSet<W>>
+    requires waiting_row { row < length waiting.now }
+    requires waiting_place { place < length (row_at (rows_of waiting.now) row) }
+    requires parked_row { row < length parked.now }
+    requires parked_place { place < length (row_at (rows_of parked.now) row) }
+    ensures set { option_copied result
+        ≡ option_or (option_map (λ a. a.set) (slice_index_or (row_at (rows_of waiting.now) row) place None))
+        (slice_index_or (row_at (rows_of parked.now) row) place None) }
+{
+    match &waiting[row][place] {
+        Some(arrival) => Some(&arrival.set),
+        None => parked[row][place].as_ref(),
+    }
 }
 
 impl<W: Watcher, C: Closer<Held<W>>> HostState<W, C> {
@@ -27,5 +57,22 @@ impl<W: Watcher, C: Closer<Held<W>>> HostState<W, C> {
             return None;
         }
         closer_at(self.closers.as_slice(), usize::from(plugin - 1))
+    }
+
+    /// The last set of a plug-in that is Live, of a hart that has left.
+    fn live_set(&self, plugin: u8, hart: u8) -> &AttachedSet<W>
+        requires least { 1 ≤ plugin }
+        requires most { plugin ≤ length self.now.registry.table.plugins }
+        requires hart { hart < self.now.task.machine.harts }
+        requires left { has_left self.now.registry.table hart ≡ true }
+        requires live { is_live (plugin_of self.now.registry.table plugin).state ≡ true }
+        ensures set { result.now ≡ attachment_of (task_run self.now.task) plugin hart self.now.past }
+    {
+        let row = usize::from(plugin - 1);
+        let place = usize::from(hart);
+        let Some(set) = set_at(&self.waiting, &self.parked, row, place) else {
+            unreachable!()
+        };
+        set
     }
 }
