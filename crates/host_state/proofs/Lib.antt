@@ -12,3 +12,4 @@ pub mod GivingBack
 pub mod Finishing
 pub mod KeptClosers
 pub mod KeptSets
+pub mod KeptSums

@@ -5,12 +5,12 @@ ghost use Rattle.std.specs.Prelude.{option_map, option_copied, slice_index_or, i
 ghost use Rattle.std.specs.Option.{option_or};
 ghost use Rattle.flat_model.specs.Columns.{entry_sum};
 ghost use Rattle.flat_model.specs.Registry.{is_installed, plugin_of, sets_of, ending_of, has_left};
-ghost use Rattle.run_rules.specs.Heard.{is_live, column, last_set};
+ghost use Rattle.run_rules.specs.Heard.{is_live, column};
 ghost use Rattle.run_rules.specs.Legal.{Whole};
 ghost use Rattle.run_order.specs.Sets.{attachment_of, harts_of, as_notice, notices_of, is_closing_out};
 ghost use Rattle.run_order.specs.InOrder.{task_run};
 ghost use Rattle.kept_order.specs.Summing.{HasSet, set_made};
-ghost use Rattle.host_state.specs.Registered.{registered};
+ghost use Rattle.host_state.specs.Registered.{registered, last_registered};
 ghost use Rattle.host_state.specs.Tables.{rows_of, row_at};
 
 use crate::arrivals::Arrival;
@@ -74,5 +74,52 @@ impl<W: Watcher, C: Closer<Held<W>>> HostState<W, C> {
             unreachable!()
         };
         set
+    }
+
+    /// An entry of the last set of a plug-in that is Live, summed over the harts modulo 2^64.
+    fn live_sum(&self, plugin: u8, entry: u8) -> u64
+        requires whole { Whole (task_run self.now.task) self.now.past }
+        requires least { 1 ≤ plugin }
+        requires most { plugin ≤ length self.now.registry.table.plugins }
+        requires live { is_live (plugin_of self.now.registry.table plugin).state ≡ true }
+        requires entry { entry < (last_registered self.now plugin).entries }
+        ensures sum { result ≡ entry_sum entry
+            (map (λ h. (attachment_of (task_run self.now.task) plugin h self.now.past).column) (harts_of (task_run self.now.task))) }
+    {
+        let mut total = 0u64;
+        for hart in 0..self.task.harts() {
+            total = total.wrapping_add(self.live_set(plugin, hart).column().get(entry));
+        }
+        total
+    }
+
+    /// The notice of a set that has ended, by its place.
+    fn told(&self, plugin: u8, set: usize) -> &Returned<Held<W>>
+        requires whole { Whole (task_run self.now.task) self.now.past }
+        requires ended { is_some (ending_of self.now.registry.table plugin set) ≡ true }
+        ensures told { HasSet (harts_of (task_run self.now.task)) (λ h. set_made (task_run self.now.task) plugin set h self.now.past)
+            (as_notice result.now) }
+    {
+        let Some(closer) = self.closer(plugin) else {
+            unreachable!()
+        };
+        closer.notice(set)
+    }
+
+    /// An entry of a set of a plug-in, both numbered as the log has them (sets from 1), summed over the harts modulo 2^64.
+    pub fn sum(&self, plugin: u8, set: u64, entry: u8) -> u64
+        requires whole { Whole (task_run self.now.task) self.now.past }
+        requires first { 1 ≤ set }
+        requires last { set ≤ length (sets_of self.now.registry.table plugin) }
+        requires entry { entry < (registered self.now plugin (set - 1)).entries }
+        ensures sum { result ≡ entry_sum entry
+            (map (λ h. column (task_run self.now.task) plugin (set - 1) h self.now.past) (harts_of (task_run self.now.task))) }
+    {
+        let place = (set - 1) as usize;
+        if self.registry.ending(plugin, place).is_some() {
+            score_boards::sum(self.told(plugin, place).columns.as_slice(), entry)
+        } else {
+            self.live_sum(plugin, entry)
+        }
     }
 }
