@@ -27,7 +27,7 @@ closer_there s plugin =
     if is_installed s.registry.table plugin && not (is_closing_out (task_run s.task) plugin s.past)
     then Some (notices_of (task_run s.task) plugin s.past) else None
 
-abbrev there_if : Bool → Bool → List Notice → Option (List Notice)
+abbrev pub there_if : Bool → Bool → List Notice → Option (List Notice)
 there_if installed out notices = if installed && not out then Some notices else None
 
 turned : (out : Bool) (notices : List Notice) → (if out then None else Some notices) ≡ there_if true out notices

@@ -13,3 +13,4 @@ pub mod Finishing
 pub mod KeptClosers
 pub mod KeptSets
 pub mod KeptSums
+pub mod KeptNotices

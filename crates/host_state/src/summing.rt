@@ -96,11 +96,13 @@ impl<W: Watcher, C: Closer<Held<W>>> HostState<W, C> {
     /// The notice of a set that has ended, by its place.
     fn told(&self, plugin: u8, set: usize) -> &Returned<Held<W>>
         requires whole { Whole (task_run self.now.task) self.now.past }
+        requires least { 1 ≤ plugin }
         requires ended { is_some (ending_of self.now.registry.table plugin set) ≡ true }
         ensures told { HasSet (harts_of (task_run self.now.task)) (λ h. set_made (task_run self.now.task) plugin set h self.now.past)
             (as_notice result.now) }
     {
-        let Some(closer) = self.closer(plugin) else {
+        let row = usize::from(plugin - 1);
+        let Some(closer) = closer_at(self.closers.as_slice(), row) else {
             unreachable!()
         };
         closer.notice(set)
