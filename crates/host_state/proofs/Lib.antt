@@ -16,3 +16,6 @@ pub mod WholeTurns
 pub mod Finishing
 pub mod KeptClosers
 pub mod Controlling
+pub mod KeptSets
+pub mod KeptSums
+pub mod KeptNotices

@@ -6,3 +6,4 @@ pub mod Taking
 pub mod Asking
 pub mod Starting
 pub mod Ordering
+pub mod Registered

@@ -28,3 +28,5 @@ pub mod Seats
 pub mod TellsInside
 pub mod InBlocks
 pub mod BackChanges
+pub mod Standing
+pub mod Tellings

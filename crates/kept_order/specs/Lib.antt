@@ -11,3 +11,4 @@ pub mod Closing
 pub mod Going
 pub mod Lying
 pub mod Withdrawing
+pub mod Summing
