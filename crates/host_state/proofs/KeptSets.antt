@@ -1,5 +1,5 @@
 -- The sets that a state has once every hart has left.
-use Rattle.std.proofs.Common.{◌≡◌, ◌-◌, ◌+◌, ◌<◌, ◌≤◌, ◌∙◌, ℕ, true, List, [], Option, Some, None, length, refl, sym, ap, subst, arith}
+use Rattle.std.proofs.Common.{◌≡◌, ◌-◌, ◌<◌, ◌≤◌, ◌∙◌, ℕ, true, List, [], Option, Some, None, length, sym, ap, subst, arith}
 use Rattle.std.specs.Prelude.{Vec, option_map, slice_index_or}
 use Rattle.std.specs.Option.{option_or}
 use Rattle.std.specs.Global.{Global}
@@ -11,7 +11,6 @@ use Rattle.run_rules.specs.Guest.{plugins}
 use Rattle.run_rules.specs.Heard.{is_live}
 use Rattle.run_order.specs.Sets.{attachment_of}
 use Rattle.run_order.specs.InOrder.{task_run}
-use Rattle.kept_order.specs.Closing.{closed_set}
 use Rattle.kept_order.proofs.Standing.{live_sets_are_there}
 use Rattle.host_state.specs.State.{StateValue, IsSound, stored_of}
 use Rattle.host_state.specs.Tables.{rows_of, row_at}
@@ -79,7 +78,7 @@ module _ (s v : StateValue) (is : v ≡ s) (i : IsSound v) (plugin hart row plac
     pub set_there : has_left s.registry.table hart ≡ true → is_live (plugin_of s.registry.table plugin).state ≡ true
         → (found : Option Attachment)
         → found ≡ option_or (option_map f (slice_index_or (row_at (rows_of waiting) row) place None))
-          (slice_index_or (row_at (rows_of parked) row) place None)
+        (slice_index_or (row_at (rows_of parked) row) place None)
         → found ≡ Some (attachment_of (task_run s.task) plugin hart s.past)
     set_there left live found found_is =
         found_is

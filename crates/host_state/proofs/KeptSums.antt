@@ -66,15 +66,19 @@ module _ (s v : StateValue) (is : v ≡ s) (i : IsSound v) where
       let last : last_registered s plugin ≡ set_at run plugin set s.past =
       subst (λ (x : StateValue). last_registered x plugin ≡ set_at (task_run x.task) plugin (last_set (plugins (task_run x.task) x.past) plugin) x.past)
       is (ap (λ (r : Plugins). registered_in r plugin (length (sets_of r plugin) - 1)) i.order.plugins) in
-      omega (arith, below, ap (λ (spec : SetSpec). spec.entries) last,
-      (sets_keep_widths run (set_at run plugin set s.past) plugin set h s.past).entries)
+      omega (
+        arith,
+        below,
+        ap (λ (spec : SetSpec). spec.entries) last,
+        (sets_keep_widths run (set_at run plugin set s.past) plugin set h s.past).entries,
+      )
 
 -- The sets of a plug-in: all have ended but the last one of a plug-in that is Live.
 
-within_some : {A : Type 0} (xs : List A) (k : ℕ) → is_some (slice_get xs k) ≡ false → length xs ≤ k
-within_some [] k none = omega arith
-within_some (x ∷ xs) zero none = absurd (false≢true (sym none))
-within_some (x ∷ xs) (suc k) none = omega (arith, within_some xs k none)
+none_beyond : {A : Type 0} (xs : List A) (k : ℕ) → is_some (slice_get xs k) ≡ false → length xs ≤ k
+none_beyond [] k none = omega arith
+none_beyond (x ∷ xs) zero none = absurd (false≢true (sym none))
+none_beyond (x ∷ xs) (suc k) none = omega (arith, none_beyond xs k none)
 
 abbrev listed : Bool → List SetSpec → List SetSpec
 listed installed sets = if installed then sets else []
@@ -88,7 +92,7 @@ still_there : (p : Plugin) (installed : Bool) (place : ℕ) → EndingsFit p
     → (is_live p.state ≡ true) × (place ≡ length (listed installed p.sets) - 1)
 still_there p false place fit none low = absurd (omega (arith, low))
 still_there p true place fit none low =
-    let past_all : length p.endings ≤ place = within_some p.endings place none in
+    let past_all : length p.endings ≤ place = none_beyond p.endings place none in
     elim (cases_Bool (is_live p.state)) [
       | inl live ↦ (live, omega (arith, fit.0 live, past_all, low))
       | inr dead ↦ absurd (omega (arith, fit.1 dead, past_all, low))
@@ -138,5 +142,9 @@ module _ (s v : StateValue) (is : v ≡ s) (i : IsSound v) where
       let spec = set_at run plugin place s.past in
       All-same (λ (parked : ParkedColumn). entry < length parked.column) columns _ is_map
       (all_columns entry (λ h. (set_made run plugin place h s.past).column) (harts_of run)
-      (λ h. omega (arith, below, ap (λ (sp : SetSpec). sp.entries) (spec_is s v is i plugin place),
-      (sets_keep_widths run spec plugin place h s.past).entries)))
+      (λ h. omega (
+        arith,
+        below,
+        ap (λ (sp : SetSpec). sp.entries) (spec_is s v is i plugin place),
+        (sets_keep_widths run spec plugin place h s.past).entries,
+      )))

@@ -14,3 +14,4 @@ pub mod KeptClosers
 pub mod KeptSets
 pub mod KeptSums
 pub mod KeptNotices
+pub mod KeptTallies

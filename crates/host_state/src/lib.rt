@@ -15,5 +15,6 @@ mod specs;
 mod states;
 mod summing;
 mod tables;
+mod tallying;
 mod tasks;
 mod wholeness;
