@@ -1,5 +1,6 @@
 -- The closers that a state in order has.
-use Rattle.std.proofs.Common.{◌≡◌, ◌≢◌, ◌&&◌, ◌-◌, ◌+◌, ◌≤◌, ◌∙◌, inl, inr, ℕ, zero, suc, [], ◌∷◌, Bool, true, false, not, List, Option, Some, None, length, map}
+use Rattle.std.proofs.Common.{◌≡◌, ◌≢◌, ◌&&◌, ◌-◌, ◌+◌, ◌≤◌, ◌∙◌, inl, inr, ℕ, zero, suc, [], ◌∷◌, Bool, true}
+use Rattle.std.proofs.Common.{false, not, List, Option, Some, None, length, map}
 use Rattle.std.proofs.Common.{refl, sym, ap, arith}
 use Rattle.std.specs.Prelude.{if◌then◌else◌, slice_index_or, option_map}
 use Rattle.std.proofs.lemmas.Bool.{cases_lt}

@@ -20,9 +20,14 @@ use Rattle.host_state.proofs.Shelved.{waiting_long, waiting_wide, parked_long, p
 abbrev Rows : Type 0
 Rows = List (List (Option Attachment))
 
+-- what stands at a place of one table, or of another where nothing does
+abbrev either_at : Rows → Rows → ℕ → ℕ → Option Attachment
+either_at first second i j = option_or (slice_index_or (row_at first i) j None) (slice_index_or (row_at second i) j None)
+
 -- `s` is the state's value, and `v` the value of its parts
 module _ (s v : StateValue) (is : v ≡ s) (i : IsSound v) (plugin hart row place : ℕ) (one : 1 ≤ plugin)
-    (most : plugin ≤ length s.registry.table.plugins) (low : hart < s.task.machine.harts) (at : row ≡ plugin - 1) (there : place ≡ hart) where
+    (most : plugin ≤ length s.registry.table.plugins) (low : hart < s.task.machine.harts)
+    (at : row ≡ plugin - 1) (there : place ≡ hart) where
   long : plugin ≤ length v.registry.table.plugins
   long = subst (λ (x : StateValue). plugin ≤ length x.registry.table.plugins) (sym is) most
 
@@ -84,10 +89,9 @@ module _ (s v : StateValue) (is : v ≡ s) (i : IsSound v) (plugin hart row plac
         found_is
         ∙ ap (λ (o : Option Attachment). option_or o (slice_index_or (row_at (rows_of parked) row) place None))
         (sym (shown_at f waiting row place) ∙ ap (λ (table : Rows). slice_index_or (row_at table row) place None) waits)
-        ∙ ap (λ (table : Rows). option_or (slice_index_or (row_at v.waiting row) place None) (slice_index_or (row_at table row) place None)) parks
-        ∙ ap (λ (k : ℕ). option_or (slice_index_or (row_at v.waiting k) place None) (slice_index_or (row_at v.parked k) place None)) at
-        ∙ ap (λ (k : ℕ). option_or (slice_index_or (row_at v.waiting (plugin - 1)) k None) (slice_index_or (row_at v.parked (plugin - 1)) k None))
-        there
+        ∙ ap (λ (table : Rows). either_at v.waiting table row place) parks
+        ∙ ap (λ (k : ℕ). either_at v.waiting v.parked k place) at
+        ∙ ap (λ (k : ℕ). either_at v.waiting v.parked (plugin - 1) k) there
         ∙ live_sets_are_there v.task plugin hart (stored_of v) i.order one long below
         (subst (λ (x : StateValue). has_left x.registry.table hart ≡ true) (sym is) left)
         (subst (λ (x : StateValue). is_live (plugin_of x.registry.table plugin).state ≡ true) (sym is) live)

@@ -52,7 +52,8 @@ pub box_tallied : (box : Option Heard) (watcher : Heard) (list : List Row) → S
 box_tallied box watcher list there is = is ∙ ap box_rows there
 
 -- the box of a set as the log has it
-with_kind : (kind : Option Kind) (events : List Event) → box_rows (option_map (λ k. record { kind = k; events = events }) kind) ≡ rows_if kind events
+with_kind : (kind : Option Kind) (events : List Event)
+    → box_rows (option_map (λ k. record { kind = k; events = events }) kind) ≡ rows_if kind events
 with_kind None events = refl
 with_kind (Some kind) events = refl
 
@@ -72,7 +73,8 @@ pub rows_made : (plugin sub : ℕ) (spec : SetSpec) (p : Progress)
     → box_rows (box_at sub (made_of plugin spec p)) ≡ rows_if (called_by spec sub) (heard_by p.walk sub)
 rows_made plugin sub spec p = ap box_rows (box_made plugin sub spec p) ∙ with_kind (called_by spec sub) (heard_by p.walk sub)
 
-some_kind : (kind : Option Kind) (events : List Event) → IsSome kind → IsSome {T = Heard} (option_map (λ k. record { kind = k; events = events }) kind)
+some_kind : (kind : Option Kind) (events : List Event) → IsSome kind
+    → IsSome {T = Heard} (option_map (λ k. record { kind = k; events = events }) kind)
 some_kind None events there = absurd (false≢true there)
 some_kind (Some kind) events there = refl
 
