@@ -1,6 +1,7 @@
 -- The closers that a state in order has.
-use Rattle.std.proofs.Common.{◌≡◌, ◌≢◌, ◌&&◌, ◌-◌, ◌+◌, ◌<◌, ◌≤◌, ◌∙◌, inl, inr, ℕ, zero, suc, [], ◌∷◌, Bool, true, false, not, List, Option, Some, None, length, map}
-use Rattle.std.proofs.Common.{refl, sym, ap, subst, arith, nat_lt, nat_le}
+use Rattle.std.proofs.Common.{◌≡◌, ◌≢◌, ◌&&◌, ◌-◌, ◌+◌, ◌≤◌, ◌∙◌, inl, inr, ℕ, zero, suc, [], ◌∷◌, Bool, true}
+use Rattle.std.proofs.Common.{false, not, List, Option, Some, None, length, map}
+use Rattle.std.proofs.Common.{refl, sym, ap, arith}
 use Rattle.std.specs.Prelude.{if◌then◌else◌, slice_index_or, option_map}
 use Rattle.std.proofs.lemmas.Bool.{cases_lt}
 use Rattle.std.proofs.lemmas.Bool.Decides.{nat_tests}
@@ -10,10 +11,10 @@ use Rattle.flat_model.specs.declared.journals.Item.{Item}
 use Rattle.flat_model.specs.Registry.{Plugins, is_installed}
 use Rattle.run_rules.specs.Guest.{Run, plugins}
 use Rattle.run_order.specs.Sets.{Notice, notices_of, is_closing_out, closers_of}
-use Rattle.run_order.specs.InOrder.{InOrder, task_run}
+use Rattle.run_order.specs.InOrder.{task_run}
 use Rattle.run_order.proofs.Taking.{map_at}
 use Rattle.kept_order.proofs.Openings.{closer}
-use Rattle.host_state.specs.State.{StateValue, stored_of, IsSound}
+use Rattle.host_state.specs.State.{StateValue, IsSound}
 
 -- what stands at a place of what is shown, also past the end
 shown_at : {A B : Type 0} (f : A → B) (xs : List A) (i : ℕ) (d : A) → slice_index_or (map f xs) i (f d) ≡ f (slice_index_or xs i d)

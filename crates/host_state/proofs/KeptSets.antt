@@ -1,5 +1,5 @@
 -- The sets that a state has once every hart has left.
-use Rattle.std.proofs.Common.{◌≡◌, ◌-◌, ◌+◌, ◌<◌, ◌≤◌, ◌∙◌, ℕ, true, List, [], Option, Some, None, length, refl, sym, ap, subst, arith}
+use Rattle.std.proofs.Common.{◌≡◌, ◌-◌, ◌<◌, ◌≤◌, ◌∙◌, ℕ, true, List, [], Option, Some, None, length, sym, ap, subst, arith}
 use Rattle.std.specs.Prelude.{Vec, option_map, slice_index_or}
 use Rattle.std.specs.Option.{option_or}
 use Rattle.std.specs.Global.{Global}
@@ -11,7 +11,6 @@ use Rattle.run_rules.specs.Guest.{plugins}
 use Rattle.run_rules.specs.Heard.{is_live}
 use Rattle.run_order.specs.Sets.{attachment_of}
 use Rattle.run_order.specs.InOrder.{task_run}
-use Rattle.kept_order.specs.Closing.{closed_set}
 use Rattle.kept_order.proofs.Standing.{live_sets_are_there}
 use Rattle.host_state.specs.State.{StateValue, IsSound, stored_of}
 use Rattle.host_state.specs.Tables.{rows_of, row_at}
@@ -21,9 +20,14 @@ use Rattle.host_state.proofs.Shelved.{waiting_long, waiting_wide, parked_long, p
 abbrev Rows : Type 0
 Rows = List (List (Option Attachment))
 
+-- what stands at a place of one table, or of another where nothing does
+abbrev either_at : Rows → Rows → ℕ → ℕ → Option Attachment
+either_at first second i j = option_or (slice_index_or (row_at first i) j None) (slice_index_or (row_at second i) j None)
+
 -- `s` is the state's value, and `v` the value of its parts
 module _ (s v : StateValue) (is : v ≡ s) (i : IsSound v) (plugin hart row place : ℕ) (one : 1 ≤ plugin)
-    (most : plugin ≤ length s.registry.table.plugins) (low : hart < s.task.machine.harts) (at : row ≡ plugin - 1) (there : place ≡ hart) where
+    (most : plugin ≤ length s.registry.table.plugins) (low : hart < s.task.machine.harts)
+    (at : row ≡ plugin - 1) (there : place ≡ hart) where
   long : plugin ≤ length v.registry.table.plugins
   long = subst (λ (x : StateValue). plugin ≤ length x.registry.table.plugins) (sym is) most
 
@@ -79,16 +83,15 @@ module _ (s v : StateValue) (is : v ≡ s) (i : IsSound v) (plugin hart row plac
     pub set_there : has_left s.registry.table hart ≡ true → is_live (plugin_of s.registry.table plugin).state ≡ true
         → (found : Option Attachment)
         → found ≡ option_or (option_map f (slice_index_or (row_at (rows_of waiting) row) place None))
-          (slice_index_or (row_at (rows_of parked) row) place None)
+        (slice_index_or (row_at (rows_of parked) row) place None)
         → found ≡ Some (attachment_of (task_run s.task) plugin hart s.past)
     set_there left live found found_is =
         found_is
         ∙ ap (λ (o : Option Attachment). option_or o (slice_index_or (row_at (rows_of parked) row) place None))
         (sym (shown_at f waiting row place) ∙ ap (λ (table : Rows). slice_index_or (row_at table row) place None) waits)
-        ∙ ap (λ (table : Rows). option_or (slice_index_or (row_at v.waiting row) place None) (slice_index_or (row_at table row) place None)) parks
-        ∙ ap (λ (k : ℕ). option_or (slice_index_or (row_at v.waiting k) place None) (slice_index_or (row_at v.parked k) place None)) at
-        ∙ ap (λ (k : ℕ). option_or (slice_index_or (row_at v.waiting (plugin - 1)) k None) (slice_index_or (row_at v.parked (plugin - 1)) k None))
-        there
+        ∙ ap (λ (table : Rows). either_at v.waiting table row place) parks
+        ∙ ap (λ (k : ℕ). either_at v.waiting v.parked k place) at
+        ∙ ap (λ (k : ℕ). either_at v.waiting v.parked (plugin - 1) k) there
         ∙ live_sets_are_there v.task plugin hart (stored_of v) i.order one long below
         (subst (λ (x : StateValue). has_left x.registry.table hart ≡ true) (sym is) left)
         (subst (λ (x : StateValue). is_live (plugin_of x.registry.table plugin).state ≡ true) (sym is) live)

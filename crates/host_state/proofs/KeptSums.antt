@@ -7,10 +7,11 @@ use Rattle.std.proofs.lemmas.List.Elements.{All-nil, All-cons, All-same}
 use Rattle.std.specs.List.{range_with_len}
 use Rattle.std.proofs.lemmas.List.FromFn.{sum_by-map-range_with_len_more}
 use Rattle.flat_model.specs.declared.plugins.SetSpec.{SetSpec}
+use Rattle.flat_model.specs.declared.journals.Item.{Item}
 use Rattle.flat_model.specs.Columns.{entry_sum}
 use Rattle.flat_model.specs.Registry.{Plugin, Plugins, plugin_of, has_left, sets_of, is_installed, ending_of}
 use Rattle.score_boards.specs.declared.ParkedColumn.{ParkedColumn}
-use Rattle.run_rules.specs.Guest.{plugins}
+use Rattle.run_rules.specs.Guest.{Run, plugins}
 use Rattle.run_rules.specs.Heard.{no_set, set_at, last_set, column, is_live}
 use Rattle.run_rules.specs.Laws.{EndingsFit}
 use Rattle.run_rules.proofs.Fitting.{installed_from}
@@ -42,6 +43,10 @@ all_columns entry columns (h ∷ harts) below =
     All-cons (λ (parked : ParkedColumn). entry < length parked.column) (record { hart = h; column = columns h })
     (map (λ k. record { hart = k; column = columns k }) harts) (below h) (all_columns entry columns harts below)
 
+-- the set that a plug-in registered last
+abbrev last_spec : Run → ℕ → List Item → SetSpec
+last_spec run plugin past = set_at run plugin (last_set (plugins run past) plugin) past
+
 abbrev registered_in : Plugins → ℕ → ℕ → SetSpec
 registered_in r plugin set = slice_index_or (sets_of r plugin) set no_set
 
@@ -64,17 +69,21 @@ module _ (s v : StateValue) (is : v ≡ s) (i : IsSound v) where
       let run = task_run s.task in
       let set = last_set (plugins run s.past) plugin in
       let last : last_registered s plugin ≡ set_at run plugin set s.past =
-      subst (λ (x : StateValue). last_registered x plugin ≡ set_at (task_run x.task) plugin (last_set (plugins (task_run x.task) x.past) plugin) x.past)
+      subst (λ (x : StateValue). last_registered x plugin ≡ last_spec (task_run x.task) plugin x.past)
       is (ap (λ (r : Plugins). registered_in r plugin (length (sets_of r plugin) - 1)) i.order.plugins) in
-      omega (arith, below, ap (λ (spec : SetSpec). spec.entries) last,
-      (sets_keep_widths run (set_at run plugin set s.past) plugin set h s.past).entries)
+      omega (
+        arith,
+        below,
+        ap (λ (spec : SetSpec). spec.entries) last,
+        (sets_keep_widths run (set_at run plugin set s.past) plugin set h s.past).entries,
+      )
 
 -- The sets of a plug-in: all have ended but the last one of a plug-in that is Live.
 
-within_some : {A : Type 0} (xs : List A) (k : ℕ) → is_some (slice_get xs k) ≡ false → length xs ≤ k
-within_some [] k none = omega arith
-within_some (x ∷ xs) zero none = absurd (false≢true (sym none))
-within_some (x ∷ xs) (suc k) none = omega (arith, within_some xs k none)
+none_beyond : {A : Type 0} (xs : List A) (k : ℕ) → is_some (slice_get xs k) ≡ false → length xs ≤ k
+none_beyond [] k none = omega arith
+none_beyond (x ∷ xs) zero none = absurd (false≢true (sym none))
+none_beyond (x ∷ xs) (suc k) none = omega (arith, none_beyond xs k none)
 
 abbrev listed : Bool → List SetSpec → List SetSpec
 listed installed sets = if installed then sets else []
@@ -88,7 +97,7 @@ still_there : (p : Plugin) (installed : Bool) (place : ℕ) → EndingsFit p
     → (is_live p.state ≡ true) × (place ≡ length (listed installed p.sets) - 1)
 still_there p false place fit none low = absurd (omega (arith, low))
 still_there p true place fit none low =
-    let past_all : length p.endings ≤ place = within_some p.endings place none in
+    let past_all : length p.endings ≤ place = none_beyond p.endings place none in
     elim (cases_Bool (is_live p.state)) [
       | inl live ↦ (live, omega (arith, fit.0 live, past_all, low))
       | inr dead ↦ absurd (omega (arith, fit.1 dead, past_all, low))
@@ -103,7 +112,8 @@ module _ (s v : StateValue) (is : v ≡ s) (i : IsSound v) where
       (none : is_some (ending_of v.registry.table plugin place) ≡ false) where
     pub numbered : 1 ≤ plugin
     numbered =
-        installed_from s.registry.table plugin (listed_in (is_installed s.registry.table plugin) (plugin_of s.registry.table plugin).sets place low)
+        installed_from s.registry.table plugin
+        (listed_in (is_installed s.registry.table plugin) (plugin_of s.registry.table plugin).sets place low)
 
     still : is_some (ending_of s.registry.table plugin place) ≡ false
     still = subst (λ (x : StateValue). is_some (ending_of x.registry.table plugin place) ≡ false) is none
@@ -127,16 +137,22 @@ module _ (s v : StateValue) (is : v ≡ s) (i : IsSound v) where
         → sum ≡ entry_sum entry (map (λ h. (attachment_of (task_run s.task) plugin h s.past).column) (harts_of (task_run s.task)))
         → sum ≡ entry_sum entry (map (λ h. column (task_run s.task) plugin place h s.past) (harts_of (task_run s.task)))
     sum_of_last entry sum so =
-        so ∙ ap (λ (k : ℕ). entry_sum entry (map (λ h. column (task_run s.task) plugin k h s.past) (harts_of (task_run s.task)))) (sym is_last)
+        so ∙ ap (λ (k : ℕ). entry_sum entry (map (λ h. column (task_run s.task) plugin k h s.past) (harts_of (task_run s.task))))
+        (sym is_last)
 
   -- the columns of a set that has ended
   pub columns_wide : (plugin place entry : ℕ) (columns : List ParkedColumn) → entry < (registered s plugin place).entries
-      → columns ≡ map (λ h. record { hart = h; column = (set_made (task_run s.task) plugin place h s.past).column }) (harts_of (task_run s.task))
+      → columns ≡ map (λ h. record { hart = h; column = (set_made (task_run s.task) plugin place h s.past).column })
+      (harts_of (task_run s.task))
       → All (λ parked. entry < length parked.column) columns
   columns_wide plugin place entry columns below is_map =
       let run = task_run s.task in
       let spec = set_at run plugin place s.past in
       All-same (λ (parked : ParkedColumn). entry < length parked.column) columns _ is_map
       (all_columns entry (λ h. (set_made run plugin place h s.past).column) (harts_of run)
-      (λ h. omega (arith, below, ap (λ (sp : SetSpec). sp.entries) (spec_is s v is i plugin place),
-      (sets_keep_widths run spec plugin place h s.past).entries)))
+      (λ h. omega (
+        arith,
+        below,
+        ap (λ (sp : SetSpec). sp.entries) (spec_is s v is i plugin place),
+        (sets_keep_widths run spec plugin place h s.past).entries,
+      )))

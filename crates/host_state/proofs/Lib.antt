@@ -19,3 +19,4 @@ pub mod Controlling
 pub mod KeptSets
 pub mod KeptSums
 pub mod KeptNotices
+pub mod KeptTallies

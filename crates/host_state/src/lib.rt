@@ -19,6 +19,7 @@ mod specs;
 mod states;
 mod summing;
 mod tables;
+mod tallying;
 mod tasks;
 mod turning;
 mod wholeness;

@@ -60,7 +60,7 @@ impl<W: Watcher, C: Closer<Held<W>>> HostState<W, C> {
     }
 
     /// The last set of a plug-in that is Live, of a hart that has left.
-    fn live_set(&self, plugin: u8, hart: u8) -> &AttachedSet<W>
+    pub(crate) fn live_set(&self, plugin: u8, hart: u8) -> &AttachedSet<W>
         requires least { 1 ≤ plugin }
         requires most { plugin ≤ length self.now.registry.table.plugins }
         requires hart { hart < self.now.task.machine.harts }
@@ -94,7 +94,7 @@ impl<W: Watcher, C: Closer<Held<W>>> HostState<W, C> {
     }
 
     /// The notice of a set that has ended, by its place.
-    fn told(&self, plugin: u8, set: usize) -> &Returned<Held<W>>
+    pub(crate) fn told(&self, plugin: u8, set: usize) -> &Returned<Held<W>>
         requires whole { Whole (task_run self.now.task) self.now.past }
         requires least { 1 ≤ plugin }
         requires ended { is_some (ending_of self.now.registry.table plugin set) ≡ true }
@@ -108,7 +108,8 @@ impl<W: Watcher, C: Closer<Held<W>>> HostState<W, C> {
         closer.notice(set)
     }
 
-    /// An entry of a set of a plug-in, both numbered as the log has them (sets from 1), summed over the harts modulo 2^64.
+    /// An entry, by its place from 0, of a set of a plug-in, summed over the harts modulo 2^64. Plug-ins and their sets are
+    /// numbered from 1.
     pub fn sum(&self, plugin: u8, set: u64, entry: u8) -> u64
         requires whole { Whole (task_run self.now.task) self.now.past }
         requires first { 1 ≤ set }

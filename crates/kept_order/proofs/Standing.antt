@@ -1,5 +1,6 @@
 -- Sets that haven't ended, once their hart has left; and the sizes of sets.
-use Rattle.std.proofs.Common.{◌≡◌, ◌||◌, ◌-◌, ◌<◌, ◌≤◌, ◌∷◌, [], ◌∙◌, ℕ, Bool, true, false, List, Option, Some, None, refl, sym, ap, subst, arith, length, map, ◌+◌}
+use Rattle.std.proofs.Common.{◌≡◌, ◌||◌, ◌-◌, ◌<◌, ◌≤◌, ◌∷◌, [], ◌∙◌, ℕ, Bool, true, false, List, Option, Some, None}
+use Rattle.std.proofs.Common.{refl, sym, ap, subst, arith, length, map, ◌+◌}
 use Rattle.std.specs.Prelude.{if◌then◌else◌, slice_index_or}
 use Rattle.std.specs.Option.{option_or}
 use Rattle.std.proofs.lemmas.Bool.{false≢true}
@@ -69,7 +70,8 @@ live_sets_are_there t plugin h s o one most low gone live =
     let within : plugin - 1 < length r.plugins =
     subst (λ (x : Plugins). plugin - 1 < length x.plugins) o.plugins (omega (arith, one, most)) in
     let left : has_left r h ≡ true = subst (λ (x : Plugins). has_left x h ≡ true) o.plugins gone in
-    let is : is_live (plugin_of r plugin).state ≡ true = subst (λ (x : Plugins). is_live (plugin_of x plugin).state ≡ true) o.plugins live in
+    let is : is_live (plugin_of r plugin).state ≡ true =
+    subst (λ (x : Plugins). is_live (plugin_of x plugin).state ≡ true) o.plugins live in
     let fit : fits place (plugin_of r plugin).state (owed_by r plugin h) true ≡ true =
     ap (fits place (plugin_of r plugin).state (owed_by r plugin h)) (sym left) ∙ places_fit run plugin h past one low o.legal o.state_log in
     ap (λ (rows : Rows). option_or (at_place rows (plugin - 1) h) (at_place s.parked (plugin - 1) h)) o.waiting
@@ -88,7 +90,8 @@ progressed_width classes spec es p w =
     let k = keeps_its_sizes classes spec.subs es p.walk in
     record { entries = k.entries ∙ w.entries; subs = k.subs ∙ w.subs }
 
-either_width : (b : Bool) (spec : SetSpec) (p q : Progress) → KeepsWidths spec p → KeepsWidths spec q → KeepsWidths spec (if b then p else q)
+either_width : (b : Bool) (spec : SetSpec) (p q : Progress) → KeepsWidths spec p → KeepsWidths spec q
+    → KeepsWidths spec (if b then p else q)
 either_width true spec p q first second = first
 either_width false spec p q first second = second
 

@@ -358,7 +358,8 @@ item_within run plugin k (Ordered origin order) past one rule c below =
 item_within run plugin k (GaveBack hart number) past one rule c below =
     let r = plugins run past in
     let p = plugin_of r number in
-    placed (λ q. k < length q.sets → k < length (plugin_of r plugin).sets) r number plugin (record p { owing = slice_set p.owing hart false })
+    placed (λ q. k < length q.sets → k < length (plugin_of r plugin).sets) r number plugin
+    (record p { owing = slice_set p.owing hart false })
     (first_true (is_installed r number) _ (first_true (owes r hart number) _ rule)) one (λ low. low) (λ same. same)
 item_within run plugin k (Left hart) past one rule c below =
     subst (λ (p : Plugin). k < length p.sets) (left_at hart (plugins run past).plugins (plugin - 1))
@@ -474,7 +475,8 @@ done_told run plugin party past one rule fit c all k d below low =
     let done = complete r plugin 0 (first_true (is_complete r plugin) _ rule) in
     let own = own_notices run plugin party past in
     let within : k < length p.sets =
-    subst (λ (q : Plugin). k < length q.sets) (same_place r plugin (record p { state = done_state p.state }) (installed_within r plugin done.0)) low in
+    subst (λ (q : Plugin). k < length q.sets)
+    (same_place r plugin (record p { state = done_state p.state }) (installed_within r plugin done.0)) low in
     subst (λ (ns : List Notice). Has run plugin k (Told party plugin ∷ past) (slice_index_or ns k d)) (sym own)
     (next_told run plugin party past one rule fit c all k d (subst (λ (ns : List Notice). k < length ns) own below) within)
 

@@ -31,7 +31,8 @@ pub record HasSet (harts : List ℕ) (sets : ℕ → Attachment) (n : Notice) : 
 -- the notice of a set is there
 pub record IsTold (run : Run) (plugin set : ℕ) (past : List Item) : Type 0 where
   pub there : set < length (notices_of run plugin past)
-  pub notice : (d : Notice) → HasSet (harts_of run) (λ h. set_made run plugin set h past) (slice_index_or (notices_of run plugin past) set d)
+  pub notice : (d : Notice)
+      → HasSet (harts_of run) (λ h. set_made run plugin set h past) (slice_index_or (notices_of run plugin past) set d)
 
 -- once no withdrawal of the plug-in goes on, each set that has ended is in the notice at its own place
 abbrev pub EndedSetsAreTold : Type 0

@@ -21,6 +21,6 @@ live_sum-requires-clause-entry g c =
 pub returns-else-is_some : goal.returns-else-is_some
 returns-else-is_some g c = record {
   sum = sum_of_last c.args.self.now _ c.self.view_is c.self.invariant c.args.plugin (c.args.set - 1) c.requires.whole.legal (omega arith)
-    (cc (c.is_some.ensures, c.if-is_some.false, c.ending.ensures))
+      (cc (c.is_some.ensures, c.if-is_some.false, c.ending.ensures))
       c.args.entry c.live_sum.result c.live_sum.ensures.sum;
 }
