@@ -25,3 +25,4 @@ pub mod Asked
 pub mod Seats
 pub mod TellsInside
 pub mod InBlocks
+pub mod Wakings

@@ -10,3 +10,4 @@ pub mod Returning
 pub mod Closing
 pub mod Going
 pub mod Lying
+pub mod Waking

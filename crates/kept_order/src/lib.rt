@@ -14,3 +14,4 @@ pub mod ordering;
 pub mod returning;
 pub mod taking;
 pub mod turning;
+pub mod waking;
