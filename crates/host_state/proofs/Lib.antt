@@ -9,3 +9,4 @@ pub mod Parking
 pub mod Shelved
 pub mod Departing
 pub mod GivingBack
+pub mod Deserted

@@ -3,3 +3,4 @@ pub mod Moving
 pub mod State
 pub mod Filters
 pub mod Taking
+pub mod Idling

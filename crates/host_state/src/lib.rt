@@ -8,6 +8,7 @@ pub use tasks::Task;
 mod arrivals;
 mod attaching;
 mod committing;
+mod idling;
 mod leaving;
 mod reading;
 mod returning;
