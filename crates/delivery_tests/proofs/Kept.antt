@@ -9,9 +9,9 @@ use Rattle.instr_lists.specs.declared.kept_lists.KeptList.{KeptList}
 use Rattle.instr_lists.specs.Caches.{MayServe, AreFrom, asked_for}
 use Rattle.delivery_tests.specs.Kept.{IsFor, AreFor}
 
-pub serves : (one : BlockIsOne) (image : Program) (sets : List (ℕ × SetSpec)) (pc : ℕ) (block : Stretch) (kept : List KeptList)
-    → AreFor image sets kept → IsBlock image pc block → MayServe 0 block sets kept
-serves one image sets pc block kept are is n d below = record {
+pub serves : (one : BlockIsOne) (image : Program) (generation : ℕ) (sets : List (ℕ × SetSpec)) (pc : ℕ)
+    (block : Stretch) (kept : List KeptList) → AreFor image sets kept → IsBlock image pc block → MayServe generation block sets kept
+serves one image generation sets pc block kept are is n d below = record {
   same_sets = λ _. (are n d below).same_sets;
   same_block = λ at. one image pc (slice_index_or kept n d).list.block block
       (subst (λ p. IsBlock image p (slice_index_or kept n d).list.block) (at ∙ is.place) (are n d below).of_image) is;
@@ -22,8 +22,8 @@ kept_or_asked : (image : Program) (sets : List (ℕ × SetSpec)) (asked : KeptLi
 kept_or_asked image sets asked old x are is (inl kept) = All-contains (IsFor image sets) old x are kept
 kept_or_asked image sets asked old x are is (inr new) = subst (λ k. IsFor image sets k) (sym new) is
 
-pub are_then : (image : Program) (sets : List (ℕ × SetSpec)) (pc : ℕ) (block : Stretch) (old new : List KeptList)
-    → AreFor image sets old → IsBlock image pc block → AreFrom (asked_for 0 block sets) old new → AreFor image sets new
-are_then image sets pc block old new are is from n d below =
-    kept_or_asked image sets (asked_for 0 block sets) old (slice_index_or new n d) are
+pub are_then : (image : Program) (generation : ℕ) (sets : List (ℕ × SetSpec)) (pc : ℕ) (block : Stretch) (old new : List KeptList)
+    → AreFor image sets old → IsBlock image pc block → AreFrom (asked_for generation block sets) old new → AreFor image sets new
+are_then image generation sets pc block old new are is from n d below =
+    kept_or_asked image sets (asked_for generation block sets) old (slice_index_or new n d) are
     (record { same_sets = refl; of_image = subst (λ p. IsBlock image p block) (sym is.place) is }) (from n d below)

@@ -8,8 +8,12 @@ mod guests;
 #[cfg(test)]
 mod list_tests;
 #[cfg(test)]
+mod lookups;
+#[cfg(test)]
 mod readings;
 #[cfg(test)]
 mod runs;
 #[cfg(test)]
 mod tests;
+#[cfg(test)]
+mod unstored;

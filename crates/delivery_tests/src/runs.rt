@@ -14,7 +14,7 @@ use crate::readings::{Reading, Told, read};
 use block_finder::{Block, BlockCache, block_is_one};
 use flat_model::{Event, Image, Mode, NoMemory, SetSpec, What};
 use guest_memory::Memory;
-use instr_lists::{ListCache, deliver};
+use instr_lists::{BlockList, ListCache, deliver, deliver_words};
 use rv_exec::{Hart, RawLog, Services};
 use std::alloc::Global;
 use std::test::Fail;
@@ -65,6 +65,35 @@ fn all_lie_in(block: &Block, raw: &[Event]) -> bool
     true
 }
 
+// Delivers the events as the list says: not at all, by the number of the words that were gone through, or one by one.
+fn deliver_by(
+    list: &BlockList,
+    block: &Block,
+    raw: &[Event],
+    attached: &mut Attached<Recorder>,
+) -> Result<Asks, NoMemory>
+    requires block { list.now.block ≡ block.now }
+    requires these { acts_of attached.old ≡ acts_with list.now.sets }
+    requires lies { All (λ e. LiesIn block.now e.what) raw.now }
+    ensures same { acts_of attached.new ≡ acts_of attached.old }
+{
+    if list.is_silent() {
+        return Ok(Asks::none());
+    }
+    if !list.adds_alone() {
+        return deliver(list, raw, attached);
+    }
+    let words = raw
+        .iter()
+        .filter(|e| matches!(e.what, What::Insn { .. }))
+        .count();
+    if words > block.sites.len() {
+        return Err(NoMemory);
+    }
+    deliver_words(list, words, attached);
+    Ok(Asks::none())
+}
+
 // Delivers the events of the block at `pc`, by the lists that the caches have.
 #[tactic(auto, using(crate::proofs::Kept::serves, crate::proofs::Kept::are_then))]
 fn deliver_block(
@@ -90,7 +119,7 @@ fn deliver_block(
     if !all_lie_in(block, raw) {
         return Err(NoMemory);
     }
-    deliver(list, raw, attached)
+    deliver_by(list, block, raw, attached)
 }
 
 // Notes the events of a delivery and what it answered.

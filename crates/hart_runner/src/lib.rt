@@ -4,6 +4,7 @@
 pub use runners::{Runner, Turned};
 pub use seats::Seat;
 
+mod delivering;
 mod entering;
 mod runners;
 mod seats;

@@ -18,7 +18,7 @@ use Rattle.flat_model.specs.declared.orders.OrderRefusal.{OrderRefusal}
 use Rattle.flat_model.specs.declared.limits.TheConstants.{RACK_BOXES}
 use Rattle.flat_model.specs.Log.{log, log_from, with_entry}
 use Rattle.flat_model.specs.Registry.{Plugins, no_plugins, registry, refusal, after_order}
-use Rattle.host_core.specs.Installs.{start_order, after_installs, refusal_at, AreAllowed, first_refused}
+use Rattle.plug_registry.specs.Installs.{start_order, after_installs, refusal_at, AreAllowed, first_refused}
 
 -- the first k installs are allowed, and the registry is the one after them
 pub record IsAt (harts : ℕ) (installs : List SetSpec) (k : ℕ) (r : Plugins) : Type 0 where

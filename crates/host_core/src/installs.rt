@@ -3,7 +3,7 @@
 ghost use Rattle.std.specs.Prelude.{◌≡◌, ◌↔◌, None, IfOk, MatchOption};
 ghost use Rattle.flat_model.specs.declared.journals.Order.TheVariants.{Install};
 ghost use Rattle.flat_model.specs.Registry.{refusal, after_order};
-ghost use Rattle.host_core.specs.Installs.{first_refused, AreAllowed};
+ghost use Rattle.plug_registry.specs.Installs.{first_refused, AreAllowed};
 
 use flat_model::limits::RACK_BOXES;
 use flat_model::{NoMemory, Order, OrderRefusal, Plan, SetSpec};

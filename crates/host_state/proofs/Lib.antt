@@ -1,6 +1,8 @@
+pub mod AllowedSets
 pub mod Placing
 pub mod Commits
 pub mod Filters
+pub mod Asked
 pub mod Rows
 pub mod Shown
 pub mod WaitingSets
@@ -10,3 +12,4 @@ pub mod Shelved
 pub mod Departing
 pub mod GivingBack
 pub mod Deserted
+pub mod Starting

@@ -6,10 +6,12 @@ pub use states::HostState;
 pub use tasks::Task;
 
 mod arrivals;
+mod asking;
 mod attaching;
 mod committing;
 mod idling;
 mod leaving;
+mod opening;
 mod reading;
 mod returning;
 mod specs;

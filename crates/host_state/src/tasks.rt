@@ -1,8 +1,9 @@
 //! What is run.
 
 ghost use Rattle.std.specs.Prelude.{◌≡◌};
+ghost use Rattle.std.specs.List.Sorted.{IsNonDecreasingBy};
 
-use flat_model::{Image, Mode, Plan};
+use flat_model::{Image, Mode, Plan, Timed};
 use std::marker::Model;
 use std::sync::Arc;
 
@@ -54,5 +55,13 @@ impl Task {
         ensures mode { result ≡ self.now.mode }
     {
         self.mode
+    }
+
+    /// The lines of the script. Their moments never fall.
+    pub fn script(&self) -> &[Timed]
+        ensures script { result.now ≡ self.now.plan.script }
+        ensures rising { IsNonDecreasingBy (λ t. t.when) self.now.plan.script }
+    {
+        &self.plan.script
     }
 }

@@ -30,7 +30,8 @@ use Rattle.instr_lists.specs.Delivery.{StopsAtCall, StopsAtSlot, StopsIn}
 use Rattle.instr_lists.proofs.InARow.{take_here}
 use Rattle.instr_lists.proofs.Resolving.{drop_here}
 use Rattle.instr_lists.proofs.Hearing.{acts_alone}
-use Rattle.instr_lists.proofs.OneEvent.{acts_in, acts_each, act_front, one_longer, all_sets, in_sets}
+use Rattle.instr_lists.specs.Silence.{acts_each}
+use Rattle.instr_lists.proofs.OneEvent.{acts_in, act_front, one_longer, all_sets, in_sets}
 
 -- the acts of sets that are attached are those of the sets
 

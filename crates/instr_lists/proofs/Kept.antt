@@ -1,12 +1,12 @@
 -- Lists that a cache keeps.
-use Rattle.std.proofs.Common.{◌≡◌, ◌<◌, ◌∙◌, ◌++◌, ◌∷◌, ◌&&◌, [], ℕ, zero, suc, Bool, true, false, List, length, Some, refl, sym, ap, subst, arith, All}
+use Rattle.std.proofs.Common.{◌≡◌, ◌<◌, ◌∙◌, ◌++◌, ◌∷◌, ◌&&◌, [], ℕ, zero, suc, Bool, true, false, List, length, Some, refl, ap, subst, arith}
 use Rattle.std.specs.Prelude.{slice_get, slice_set, slice_index_or, ◌==◌}
 use Rattle.std.proofs.lemmas.Bool.{eq-eqb, eqb-true}
 use Rattle.flat_model.specs.declared.plugins.SetSpec.{SetSpec}
 use Rattle.block_finder.specs.Block.{Stretch}
 use Rattle.instr_lists.specs.Lists.{Listed}
 use Rattle.instr_lists.specs.declared.kept_lists.KeptList.{KeptList}
-use Rattle.instr_lists.specs.Caches.{Agrees, MayServe, stands_at}
+use Rattle.instr_lists.specs.Caches.{MayServe, stands_at}
 
 get_set : (lists : List KeptList) (place : ℕ) (kept : KeptList) → place < length lists → slice_get (slice_set lists place kept) place ≡ Some kept
 get_set [] place kept below = absurd (omega (arith, below))

@@ -1,7 +1,11 @@
+pub mod Deaf
 pub mod Resolving
 pub mod InARow
 pub mod Placing
 pub mod Hearing
 pub mod OneEvent
 pub mod Events
+pub mod Unstored
+pub mod Adding
+pub mod Told
 pub mod Kept

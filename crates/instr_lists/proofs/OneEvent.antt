@@ -18,6 +18,7 @@ use Rattle.instr_lists.specs.declared.sorts.Sort.{Sort}
 use Rattle.instr_lists.specs.Sorts.{passes}
 use Rattle.instr_lists.specs.Slots.{slots_in, slots_from}
 use Rattle.instr_lists.specs.Delivery.{all_act, each_hears, has_come}
+use Rattle.instr_lists.specs.Silence.{acts_each}
 use Rattle.instr_lists.proofs.Hearing.{act_on}
 
 set_seam : {X : Type 0} (xs : List X) (y z : X) (ys : List X) → slice_set (xs ++ y ∷ ys) (length xs) z ≡ xs ++ z ∷ ys
@@ -34,14 +35,11 @@ act_seam k i act e xs w ws long =
 abbrev pub acts_in : List Sub → List Act
 acts_in subs = map (λ (s : Sub). s.act) subs
 
-abbrev pub acts_each : List (ℕ × SetSpec) → List (List Act)
-acts_each sets = map (λ s. acts_in s.1.subs) sets
-
 pub act_front : (front : List Sub) (s : Sub) (back : List Sub) → act_in (acts_in (front ++ s ∷ back)) (length front) ≡ s.act
 act_front [] s back = refl
 act_front (f ∷ front) s back = act_front front s back
 
-act_here : (front : List Sub) (s : Sub) (back : List Sub) (i : ℕ) → length front ≡ i → act_in (acts_in (front ++ s ∷ back)) i ≡ s.act
+pub act_here : (front : List Sub) (s : Sub) (back : List Sub) (i : ℕ) → length front ≡ i → act_in (acts_in (front ++ s ∷ back)) i ≡ s.act
 act_here front s back i long = subst (λ n. act_in (acts_in (front ++ s ∷ back)) n ≡ s.act) long (act_front front s back)
 
 pub one_longer : {X : Type 0} (xs : List X) (x : X) (n : ℕ) → length xs ≡ n → length (xs ++ x ∷ []) ≡ n + 1
@@ -52,6 +50,13 @@ take_over [] ys m = let e : 0 + m ≡ m = omega arith in rw e refl
 take_over (x ∷ xs) ys m =
     let e : length (x ∷ xs) + m ≡ suc (length xs + m) = omega arith in
     rw e (ap (λ l. x ∷ l) (take_over xs ys m))
+
+pub looked_in : (table : List (List Act)) (k : ℕ) (before : List (List Act)) (s : ℕ × SetSpec) (sets : List (ℕ × SetSpec))
+    → table ≡ before ++ acts_each (s ∷ sets) → length before ≡ k → slice_index_or table k [] ≡ acts_in s.1.subs
+looked_in table k before s sets is long =
+    ap (λ l. slice_index_or l k []) is
+    ∙ subst (λ n. slice_index_or (before ++ acts_each (s ∷ sets)) n [] ≡ acts_in s.1.subs) long
+    (get_or-append_seam before (acts_in s.1.subs) (acts_each sets) [])
 
 -- the acts of a set at place k, from its subscription i on, of which those in front come before
 record InOne (acts' : List (List Act)) (classes : Classes) (e : Event) (sort : Sort) (k i n : ℕ) (subs : List Sub) (slots : List Slot)
@@ -195,13 +200,6 @@ module _ (table : List (List Act)) (classes : Classes) (e : Event) (sort : Sort)
 
   -- all sets from one on
 
-  looked_up : (k : ℕ) (before : List (List Act)) (s : ℕ × SetSpec) (sets : List (ℕ × SetSpec)) → table ≡ before ++ acts_each (s ∷ sets)
-      → length before ≡ k → slice_index_or table k [] ≡ acts_in s.1.subs
-  looked_up k before s sets is long =
-      ap (λ l. slice_index_or l k []) is
-      ∙ subst (λ n. slice_index_or (before ++ acts_each (s ∷ sets)) n [] ≡ acts_in s.1.subs) long
-      (get_or-append_seam before (acts_in s.1.subs) (acts_each sets) [])
-
   pub all_sets : (k : ℕ) (sets : List (ℕ × SetSpec)) (before : List (List Act)) (xs ws : List Walk)
       → table ≡ before ++ acts_each sets → length before ≡ k → length xs ≡ k → length ws ≡ length sets
       → all_act table e (slots_from k sort sets) (xs ++ ws) ≡ xs ++ each_hears classes sets e ws
@@ -214,7 +212,7 @@ module _ (table : List (List Act)) (classes : Classes) (e : Event) (sort : Sort)
       let mine = slots_in k 0 sort subs in
       let others = slots_from (k + 1) sort sets in
       act_on table e mine others (xs ++ w ∷ ws)
-      ∙ (ap (all_act table e others) (one_set k subs [] 0 xs w ws refl len (looked_up k before s sets is long)
+      ∙ (ap (all_act table e others) (one_set k subs [] 0 xs w ws refl len (looked_in table k before s sets is long)
       ∙ sym (append_assoc xs (now ∷ []) ws))
       ∙ (all_sets (k + 1) sets (before ++ acts_in subs ∷ []) (xs ++ now ∷ []) ws
       (is ∙ sym (append_assoc before (acts_in subs ∷ []) (acts_each sets)))
@@ -235,7 +233,7 @@ module _ (table : List (List Act)) (classes : Classes) (e : Event) (sort : Sort)
       let others = slots_from (k + 1) sort sets in
       elim (cases_lt n (length mine)) [
         | inl inside ↦
-            let r = in_one k subs [] 0 n xs w ws refl len (looked_up k before s sets is long) inside in
+            let r = in_one k subs [] 0 n xs w ws refl len (looked_in table k before s sets is long) inside in
             record {
               ahead = [];
               set = s;
@@ -277,7 +275,7 @@ module _ (table : List (List Act)) (classes : Classes) (e : Event) (sort : Sort)
               came = ap (λ j. all_act table e (take j (mine ++ others)) (xs ++ w ∷ ws)) split
                   ∙ (ap (λ l. all_act table e l (xs ++ w ∷ ws)) (take_over mine others m)
                   ∙ (act_on table e mine (take m others) (xs ++ w ∷ ws)
-                  ∙ (ap (all_act table e (take m others)) (one_set k subs [] 0 xs w ws refl len (looked_up k before s sets is long)
+                  ∙ (ap (all_act table e (take m others)) (one_set k subs [] 0 xs w ws refl len (looked_in table k before s sets is long)
                   ∙ sym (append_assoc xs (now ∷ []) ws))
                   ∙ (r.came ∙ append_assoc xs (now ∷ []) (has_come classes r.ahead r.first e ws)))));
             }

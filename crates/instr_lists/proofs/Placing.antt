@@ -21,7 +21,7 @@ pub five_each : (sites : List Site) → length (flat_map site_sorts sites) ≡ 5
 five_each [] = refl
 five_each (s ∷ sites) = omega (arith, five_each sites, length-append (site_sorts s) (flat_map site_sorts sites))
 
-all_long : (sites : List Site) → length (sorts_of sites) ≡ 5 * length sites + 4
+pub all_long : (sites : List Site) → length (sorts_of sites) ≡ 5 * length sites + 4
 all_long sites = omega (arith, five_each sites, length-append (flat_map site_sorts sites) other_sorts)
 
 -- sort j of word k
@@ -44,11 +44,11 @@ other_sort sites j small =
 -- What filters let through, by the sort.
 
 module _ (classes : Classes) (f : Filter) where
-  block_same : (pc at n : ℕ) → at ≡ pc → passes f (Block at) ≡ lets_through classes f (what.Block pc n)
+  pub block_same : (pc at n : ℕ) → at ≡ pc → passes f (Block at) ≡ lets_through classes f (what.Block pc n)
   unfolding passes lets_through
   block_same pc at n same = ap (λ a. meet f.kinds KIND_BLOCK && is_within f a) same
 
-  insn_same : (pc at word : ℕ) (class : Class) → at ≡ pc → classes pc ≡ Some class
+  pub insn_same : (pc at word : ℕ) (class : Class) → at ≡ pc → classes pc ≡ Some class
       → passes f (Insn at class) ≡ lets_through classes f (what.Insn pc word)
   unfolding passes lets_through
   insn_same pc at word class same those =
@@ -78,20 +78,20 @@ module _ (classes : Classes) (f : Filter) where
   unfolding passes lets_through
   exit_same ending = refl
 
-no_site : Site
+pub no_site : Site
 no_site = record { pc = 0; word = 0; ins = None; class = Illegal }
 
 -- the words of a block
 
-at_word : (sites : List Site) (k j p : ℕ) → k < length sites → j < 5 → p ≡ 5 * k + j
+pub at_word : (sites : List Site) (k j p : ℕ) → k < length sites → j < 5 → p ≡ 5 * k + j
     → slice_index_or (sorts_of sites) p Init ≡ slice_index_or (site_sorts (slice_index_or sites k no_site)) j Init
 at_word sites k j p below small is =
     ap (λ m. slice_index_or (sorts_of sites) m Init) is ∙ word_sort sites k j no_site below small
 
-inside_place : (sites : List Site) (k j p : ℕ) → k < length sites → j < 5 → p ≡ 5 * k + j → p < length (sorts_of sites)
+pub inside_place : (sites : List Site) (k j p : ℕ) → k < length sites → j < 5 → p ≡ 5 * k + j → p < length (sorts_of sites)
 inside_place sites k j p below small is = omega (arith, all_long sites, below, small, is)
 
-access_at : (s : Site) (rw : ℕ) → 0 < rw → rw < 4 → slice_index_or (site_sorts s) (1 + rw) Init ≡ Mem s.pc s.class rw
+pub access_at : (s : Site) (rw : ℕ) → 0 < rw → rw < 4 → slice_index_or (site_sorts s) (1 + rw) Init ≡ Mem s.pc s.class rw
 access_at s zero least most = absurd (omega (arith, least))
 access_at s (suc zero) least most = refl
 access_at s (suc (suc zero)) least most = refl
@@ -132,7 +132,7 @@ module _ (block : Stretch) (pc place : ℕ) (in' : IsInside block pc) where
 -- what any step can give
 
 module _ (block : Stretch) (n : ℕ) (long : length block.sites ≡ n) where
-  after_words : (j : ℕ) → j < 4 → slice_index_or (sorts_of block.sites) (5 * n + j) Init ≡ slice_index_or other_sorts j Init
+  pub after_words : (j : ℕ) → j < 4 → slice_index_or (sorts_of block.sites) (5 * n + j) Init ≡ slice_index_or other_sorts j Init
   after_words j small = ap (λ m. slice_index_or (sorts_of block.sites) (5 * m + j) Init) (sym long) ∙ other_sort block.sites j small
 
   pub init_place : IsPlaceOf block what.Init (5 * n)

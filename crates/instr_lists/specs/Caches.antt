@@ -3,7 +3,6 @@ use Rattle.std.specs.Prelude.{◌≡◌, ◌⊎◌, ◌==◌, ◌&&◌, ℕ, Boo
 use Rattle.std.specs.Option.{option_map_or}
 use Rattle.flat_model.specs.declared.plugins.SetSpec.{SetSpec}
 use Rattle.block_finder.specs.Block.{Stretch}
-use Rattle.instr_lists.specs.Lists.{Listed}
 use Rattle.instr_lists.specs.declared.kept_lists.KeptList.{KeptList}
 
 -- a list of this generation is for these sets, and one of a block at the same address is of this block

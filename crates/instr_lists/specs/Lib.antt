@@ -4,3 +4,4 @@ pub mod Lists
 pub mod Delivery
 pub mod Caches
 pub mod Lending
+pub mod Silence

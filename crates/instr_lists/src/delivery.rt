@@ -18,7 +18,7 @@ use watcher_api::{Asks, Attached, Watcher};
 
 /// Carries out the acts of these slots at an event, one after the other.
 #[inline]
-fn hear_all<W: Watcher>(
+pub(crate) fn hear_all<W: Watcher>(
     slots: &[Slot],
     e: &Event,
     attached: &mut Attached<W>,

@@ -5,7 +5,9 @@ pub use blocks::{BlockList, build};
 pub use caching::ListCache;
 pub use delivery::deliver;
 pub use kept_lists::KeptList;
+pub use words::deliver_words;
 
+mod additions;
 mod blocks;
 mod caching;
 mod delivery;
@@ -13,3 +15,4 @@ mod kept_lists;
 mod lists;
 mod slots;
 mod sorts;
+mod words;

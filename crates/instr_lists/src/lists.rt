@@ -3,7 +3,9 @@
 ghost use Rattle.std.specs.Prelude.{◌≡◌, ◌<◌, ◌++◌, ◌∷◌, [], true, length, slice_index_or, IfOk};
 ghost use Rattle.instr_lists.specs.declared.sorts.Sort.TheVariants.{Init};
 ghost use Rattle.instr_lists.specs.Slots.{slots_of};
+ghost use Rattle.instr_lists.specs.Silence.{at_all, is_deaf, only_adds};
 
+use crate::additions::only_adds;
 use crate::slots::{Slot, push_slots};
 use crate::sorts::Sort;
 use flat_model::{NoMemory, SetSpec, Trace};
@@ -16,19 +18,23 @@ pub(crate) struct Lists {
     slots: Vec<Slot>,
     /// Where each list begins, and where the last one ends; nothing where there is no slot.
     starts: Vec<usize>,
+    /// Whether all acts are unconditional adds where a block starts or at a word.
+    adds: bool,
     sets: Trace<(u8, SetSpec)>,
     sorts: Trace<Sort>,
 }
 
 impl Model for Lists {
-    ghost use Rattle.std.specs.Prelude.{nat_lt, length};
+    ghost use Rattle.std.specs.Prelude.{◌≡◌, nat_lt, length};
     ghost use Rattle.instr_lists.specs.Lists.{Resolved, IsResolved};
+    ghost use Rattle.instr_lists.specs.Silence.{at_all, only_adds};
 
     ghost Value = { Resolved };
 
     ghost view = { λ l. record { sets = l.sets.items; sorts = l.sorts.items; grows = nat_lt 0 (length l.starts.items) } };
 
-    ghost invariant = { λ l. IsResolved l.sets.items l.sorts.items l.slots.items l.starts.items };
+    ghost invariant = { λ l. (IsResolved l.sets.items l.sorts.items l.slots.items l.starts.items)
+        × (l.adds ≡ at_all only_adds l.sets.items l.sorts.items) };
 }
 
 /// The sets as a list that proofs read.
@@ -50,6 +56,7 @@ impl Lists {
         Ok(Lists {
             slots: Vec::new(alloc),
             starts: vec![in alloc; 0usize; 1]?,
+            adds: true,
             sets: traced(sets),
             sorts: Trace::new(),
         })
@@ -64,6 +71,7 @@ impl Lists {
         let Lists {
             mut slots,
             mut starts,
+            adds,
             sets: traced,
             sorts,
         } = self;
@@ -72,6 +80,7 @@ impl Lists {
         Ok(Lists {
             slots,
             starts,
+            adds: adds && only_adds(&sort, sets),
             sets: traced,
             sorts: sorts.and(&sort),
         })
@@ -88,15 +97,33 @@ impl Lists {
         let Lists {
             slots,
             starts: _,
+            adds,
             sets,
             sorts,
         } = self;
         Lists {
             slots,
             starts: Vec::new(alloc),
+            adds,
             sets,
             sorts,
         }
+    }
+
+    /// Whether no subscription hears an event of these sorts.
+    #[inline]
+    pub(crate) fn is_silent(&self) -> bool
+        ensures silent { result ≡ at_all is_deaf self.now.sets self.now.sorts }
+    {
+        self.slots.is_empty()
+    }
+
+    /// Whether all acts are unconditional adds where a block starts or at a word.
+    #[inline]
+    pub(crate) fn adds_alone(&self) -> bool
+        ensures adds { result ≡ at_all only_adds self.now.sets self.now.sorts }
+    {
+        self.adds
     }
 
     /// The list of the sort of event at a place.

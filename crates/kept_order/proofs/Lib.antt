@@ -19,6 +19,8 @@ pub mod Dones
 pub mod Tables
 pub mod Orders
 pub mod Backs
+pub mod Unplanned
+pub mod Withdrawals
 pub mod Gots
 pub mod Rows
 pub mod Asked

@@ -29,7 +29,7 @@ flat_same f g a (suc n) same =
     ap (λ xs. xs ++ flat_map f (range_with_len (a + 1) n)) (same a (omega arith) (omega arith))
     ∙ ap (λ xs. g a ++ xs) (flat_same f g (a + 1) n (λ k low high. same k (omega (arith, low)) (omega (arith, high))))
 
-gives_same : {A : Type 0} (f g : ℕ → Option A) (a n : ℕ) → ((k : ℕ) → a ≤ k → k < a + n → f k ≡ g k)
+pub gives_same : {A : Type 0} (f g : ℕ → Option A) (a n : ℕ) → ((k : ℕ) → a ≤ k → k < a + n → f k ≡ g k)
     → filter_map f (range_with_len a n) ≡ filter_map g (range_with_len a n)
 gives_same f g a zero same = refl
 gives_same f g a (suc n) same =

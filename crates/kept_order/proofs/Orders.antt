@@ -62,7 +62,7 @@ not_closing (Uninstall number) Leaving some = absurd (false≢true some)
 not_closing order Gone some = refl
 
 -- a set that the order doesn't register
-off_place : (run : Run) (origin : Origin) (order : Order) (p j : ℕ) (past : List Item) → registers (plugins run past) order p ≡ false
+pub off_place : (run : Run) (origin : Origin) (order : Order) (p j : ℕ) (past : List Item) → registers (plugins run past) order p ≡ false
     → place_of run p j (Ordered origin order ∷ past) ≡ place_of run p j past
 unfolding place_of
 off_place run origin order p j past off = rw off refl
@@ -74,7 +74,7 @@ off_attachment : (run : Run) (origin : Origin) (order : Order) (p j : ℕ) (past
 unfolding registry progress
 off_attachment run origin order p j past same = ap (λ (sets : List SetSpec). last_made run p j sets past) same
 
-off_placed : (test : Place → Bool) (run : Run) (origin : Origin) (order : Order) (p j : ℕ) (past : List Item) → 1 ≤ p
+pub off_placed : (test : Place → Bool) (run : Run) (origin : Origin) (order : Order) (p j : ℕ) (past : List Item) → 1 ≤ p
     → allowed (plugins run past) order ≡ true → registers (plugins run past) order p ≡ false
     → placed_at test run (Ordered origin order ∷ past) p j ≡ placed_at test run past p j
 off_placed test run origin order p j past one is off =
@@ -137,7 +137,7 @@ stays_open run origin order past plugin was is =
     (notices_of run plugin past) was)
 
 -- an order that names a plug-in
-abbrev IsNaming : Order → Type 0
+abbrev pub IsNaming : Order → Type 0
 IsNaming (Install spec) = ⊥
 IsNaming (Register number spec) = Unit {0}
 IsNaming (Reset number) = Unit {0}
@@ -188,7 +188,7 @@ same_closer run origin (Uninstall number) past plugin names one is =
     ]
 
 -- there are as many plug-ins as before, and the harts that have left are the same
-same_long : (r : Plugins) (order : Order) → IsNaming order → length (after_order order r).plugins ≡ length r.plugins
+pub same_long : (r : Plugins) (order : Order) → IsNaming order → length (after_order order r).plugins ≡ length r.plugins
 same_long r (Install spec) names = absurd names
 same_long r (Register number spec) names = length-set r.plugins (number - 1) (with_set (plugin_of r number) spec)
 same_long r (Reset number) names = length-set r.plugins (number - 1) (withdrawn (plugin_of r number) Resetting how.Reset r.gone)
@@ -222,13 +222,13 @@ same_harts t origin order past =
 
 -- Withdrawals.
 
-withdrawal_names : (order : Order) → IsWithdrawal order → IsNaming order
+pub withdrawal_names : (order : Order) → IsWithdrawal order → IsNaming order
 withdrawal_names (Install spec) is = is
 withdrawal_names (Register number spec) is = tt
 withdrawal_names (Reset number) is = tt
 withdrawal_names (Uninstall number) is = tt
 
-registers_none : (r : Plugins) (order : Order) (p : ℕ) → IsWithdrawal order → registers r order p ≡ false
+pub registers_none : (r : Plugins) (order : Order) (p : ℕ) → IsWithdrawal order → registers r order p ≡ false
 registers_none r (Install spec) p is = absurd is
 registers_none r (Register number spec) p is = absurd is
 registers_none r (Reset number) p is = refl

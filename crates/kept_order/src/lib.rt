@@ -15,3 +15,4 @@ pub mod returning;
 pub mod taking;
 pub mod turning;
 pub mod waking;
+pub mod withdrawing;

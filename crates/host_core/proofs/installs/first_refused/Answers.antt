@@ -1,5 +1,5 @@
 use Rattle.std.proofs.Common.{◌≡◌, sym, ap, ◌∙◌, arith, length, Some}
-use Rattle.host_core.specs.Installs.{first_refused}
+use Rattle.plug_registry.specs.Installs.{first_refused}
 use Rattle.host_core.proofs.Installed.{at_first, at_next, refused_here, all_allowed, not_all_allowed, each_allowed}
 use Rattle.host_core.proofs.installs.first_refused.Goals as goal
 

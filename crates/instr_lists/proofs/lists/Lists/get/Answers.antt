@@ -15,7 +15,7 @@ returns-then-is_empty c =
     record {
       list = subst (λ (v : Resolved). c.deref.result.now ≡ slots_of v.sets (slice_index_or v.sorts c.args.place Init)) c.self.view_is
           (c.deref.ensures.value ∙ (empty
-          ∙ sym (list_of_none in'.sets.items in'.sorts.items in'.slots.items in'.starts.items c.self.invariant c.args.place below empty)));
+          ∙ sym (list_of_none in'.sets.items in'.sorts.items in'.slots.items in'.starts.items c.self.invariant.0 c.args.place below empty)));
     }
 
 pub split_at-requires : goal.split_at-requires
@@ -24,9 +24,9 @@ split_at-requires c =
     let below : c.args.place < length in'.sorts.items =
     subst (λ (v : Resolved). c.args.place < length v.sorts) (sym c.self.view_is) c.requires.there in
     let more : 0 < length in'.slots.items = omega (arith, some_of _ (sym c.if-is_empty.ensures), in'.slots.ok.0) in
-    let fits = list_fits in'.sets.items in'.sorts.items in'.slots.items in'.starts.items c.self.invariant c.args.place below more
+    let fits = list_fits in'.sets.items in'.sorts.items in'.slots.items in'.starts.items c.self.invariant.0 c.args.place below more
     c.index-start.result.now c.index-end.result.now c.index-start.ensures c.index-end.ensures in
-    let len = list_len in'.sets.items in'.sorts.items in'.slots.items in'.starts.items c.self.invariant c.args.place below more
+    let len = list_len in'.sets.items in'.sorts.items in'.slots.items in'.starts.items c.self.invariant.0 c.args.place below more
     c.index-start.result.now c.index-end.result.now c.index-start.ensures c.index-end.ensures in
     omega (arith, fits, len, ap length c.deref-2.ensures.value)
 
@@ -36,7 +36,7 @@ overflow_sub-end c =
     let below : c.args.place < length in'.sorts.items =
     subst (λ (v : Resolved). c.args.place < length v.sorts) (sym c.self.view_is) c.requires.there in
     let more : 0 < length in'.slots.items = omega (arith, some_of _ (sym c.if-is_empty.ensures), in'.slots.ok.0) in
-    let len = list_len in'.sets.items in'.sorts.items in'.slots.items in'.starts.items c.self.invariant c.args.place below more
+    let len = list_len in'.sets.items in'.sorts.items in'.slots.items in'.starts.items c.self.invariant.0 c.args.place below more
     c.index-start.result.now c.index-end.result.now c.index-start.ensures c.index-end.ensures in
     omega (arith, len)
 
@@ -46,7 +46,7 @@ split_at-requires-2 c =
     let below : c.args.place < length in'.sorts.items =
     subst (λ (v : Resolved). c.args.place < length v.sorts) (sym c.self.view_is) c.requires.there in
     let more : 0 < length in'.slots.items = omega (arith, some_of _ (sym c.if-is_empty.ensures), in'.slots.ok.0) in
-    let fits = list_fits in'.sets.items in'.sorts.items in'.slots.items in'.starts.items c.self.invariant c.args.place below more
+    let fits = list_fits in'.sets.items in'.sorts.items in'.slots.items in'.starts.items c.self.invariant.0 c.args.place below more
     c.index-start.result.now c.index-end.result.now c.index-start.ensures c.index-end.ensures in
     omega (arith, fits, ap length c.deref-2.ensures.value, c.split_at.ensures.back_len)
 
@@ -62,6 +62,6 @@ returns c =
     c.split_at-2.ensures.front ∙ ap (take (end - start)) (c.split_at.ensures.back ∙ ap (drop start) c.deref-2.ensures.value) in
     record {
       list = subst (λ (v : Resolved). c.split_at-2.result.0.now ≡ slots_of v.sets (slice_index_or v.sorts c.args.place Init)) c.self.view_is
-          (cut ∙ list_is in'.sets.items in'.sorts.items in'.slots.items in'.starts.items c.self.invariant c.args.place below more
+          (cut ∙ list_is in'.sets.items in'.sorts.items in'.slots.items in'.starts.items c.self.invariant.0 c.args.place below more
           start end c.index-start.ensures c.index-end.ensures);
     }
