@@ -1,1 +1,3 @@
+pub mod GivingBacks
+pub mod Entered
 pub mod Lists

@@ -43,7 +43,7 @@ pub record IsBack (t : Task) (no : ℕ) (past : List Item) (h : HartState) (atta
 
 -- what a party has added to the log
 abbrev pub Own : ℕ → List Item → List Item → Type 0
-Own no seen past = GoesOn (λ i. party i ≡ no) seen past
+Own h seen past = GoesOn (λ i. party i ≡ h) seen past
 
 -- in a hold, once asks, Backs and arrived sets are dealt with
 pub record HasEntered (no : ℕ) (seen : List Item) (s : StateValue) (attached : List Attachment) (filters : List (ℕ × SetSpec)) : Type 0 where

@@ -128,7 +128,7 @@ alone s h n hart after sound is_ready is moves =
     let w = world m s.task.mode s.past in
     subst (λ x. IsRunOf m s.task.mode h n s.past (steps_of m h n x w.shared)) (sym is) (runs_alone m s.task.mode h n s.past)
 
-group_of : (s : StateValue) → IsSound s → s.services.group ≡ None → (world s.task.machine s.task.mode s.past).shared.group ≡ None
+pub group_of : (s : StateValue) → IsSound s → s.services.group ≡ None → (world s.task.machine s.task.mode s.past).shared.group ≡ None
 group_of s sound none = ap (λ (x : Shared). x.group) (sym sound.order.shared) ∙ none
 
 pub moved_hart : (s : StateValue) (h n : ℕ) (hart after : HartState) → IsSound s → IsReady s h hart
@@ -149,7 +149,7 @@ moved_shared s h n hart after sound is_ready is moves =
 -- A step with what is shared.
 
 -- the machine of the step is that of the run
-of_run : (s : StateValue) (limit : ℕ) (image : Program) → IsSound s → image ≡ s.task.machine.image → limit ≡ s.task.machine.limit
+pub of_run : (s : StateValue) (limit : ℕ) (image : Program) → IsSound s → image ≡ s.task.machine.image → limit ≡ s.task.machine.limit
     → machine_on image s.memory limit ≡ s.task.machine
 of_run s limit image sound same within =
     ap (λ n. record { image = image; harts = n; limit = limit }) sound.places

@@ -13,3 +13,6 @@ pub mod Departing
 pub mod GivingBack
 pub mod Deserted
 pub mod Starting
+pub mod WholeTurns
+pub mod Finishing
+pub mod KeptClosers

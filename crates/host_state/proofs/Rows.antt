@@ -20,7 +20,7 @@ suc_out : (n k : ℕ) → n + suc k ≡ suc (n + k)
 suc_out n k = omega arith
 
 -- n steps and then k are n + k
-abbrev and_then : Stepped → Stepped → Stepped
+abbrev pub and_then : Stepped → Stepped → Stepped
 and_then a b = record { hart = b.hart; shared = b.shared; events = a.events ++ b.events }
 
 pub in_a_row : (m : Machine) (h n k : ℕ) (hart : HartState) (shared : Shared)

@@ -42,7 +42,8 @@ pub pushed : {A B : Type 0} (f : A → B) (xs now : List A) (x : A) (y : B) → 
 pushed f xs now x y more is = ap (map f) more ∙ map-append f xs (x ∷ []) ∙ ap (λ z. map f xs ++ z ∷ []) is
 
 -- a closer without notices
-pub untold : {A B D : Type 0} (f : A → List B) (g : B → D) (o : Option A) → option_map f o ≡ Some [] → option_map (λ a. map g (f a)) o ≡ Some []
+pub untold : {A B D : Type 0} (f : A → List B) (g : B → D) (o : Option A) → option_map f o ≡ Some []
+    → option_map (λ a. map g (f a)) o ≡ Some []
 untold f g None none = cc
 untold f g (Some a) none = let empty : f a ≡ [] = cc in ap (λ bs. Some (map g bs)) empty
 
@@ -120,7 +121,8 @@ one_more installs i spec there is =
     ap log (map_more start_order installs i spec there ∙ ap (λ s. map start_order (take i installs) ++ start_order s ∷ []) (sym is))
     ∙ log_more [] (map start_order (take i installs)) (start_order spec)
 
-start_orders_from : (past : List Item) (specs : List SetSpec) → start_orders (log_from past (map start_order specs)) ≡ start_orders past + length specs
+start_orders_from : (past : List Item) (specs : List SetSpec)
+    → start_orders (log_from past (map start_order specs)) ≡ start_orders past + length specs
 unfolding start_orders
 start_orders_from past [] = omega arith
 start_orders_from past (spec ∷ specs) = let more = start_orders_from (Ordered Start (Install spec) ∷ past) specs in omega (arith, more)
@@ -189,7 +191,8 @@ pub record IsStarted (spec : SetSpec) (old new : StateValue) : Type 0 where
   pub table : new.registry.table ≡ after_order (Install spec) old.registry.table
   pub journal : log new.journal.entries ≡ Ordered Start (Install spec) ∷ log old.journal.entries
   pub past : new.past ≡ Ordered Start (Install spec) ∷ old.past
-  pub waiting : new.waiting ≡ old.waiting ++ replicate old.task.machine.harts (Some (opening (length old.registry.table.plugins + 1) spec)) ∷ []
+  pub waiting : new.waiting
+      ≡ old.waiting ++ replicate old.task.machine.harts (Some (opening (length old.registry.table.plugins + 1) spec)) ∷ []
   pub arriving : new.arriving ≡ old.arriving ++ replicate old.task.machine.harts (Some spec) ∷ []
   pub parked : new.parked ≡ old.parked ++ replicate old.task.machine.harts None ∷ []
   pub harts : new.harts ≡ old.harts
@@ -198,7 +201,8 @@ pub record IsStarted (spec : SetSpec) (old new : StateValue) : Type 0 where
   pub spare_closers : new.spare_closers + 1 ≡ old.spare_closers
   pub failed : new.failed ≡ old.failed
 
-stands : (s : StateValue) (i : ℕ) (spec : SetSpec) → IsSound s → IsNext s i spec → Legal (task_run s.task) (Ordered Start (Install spec) ∷ s.past)
+stands : (s : StateValue) (i : ℕ) (spec : SetSpec) → IsSound s → IsNext s i spec
+    → Legal (task_run s.task) (Ordered Start (Install spec) ∷ s.past)
 stands s i spec sound next =
     let installs = s.task.plan.installs in
     let few : i ≤ length installs = omega (arith, next.there) in
@@ -208,7 +212,8 @@ stands s i spec sound next =
     next_installs_stand (task_run s.task) spec s.past sound.order.legal (ap (slice_get installs) count ∙ here)
     (ap (λ (r : Plugins). refusal r (Install spec)) (sym sound.order.plugins) ∙ next.allowed)
 
-pub started_is_sound : (old new : StateValue) (i : ℕ) (spec : SetSpec) → IsSound old → IsNext old i spec → IsStarted spec old new → IsSound new
+pub started_is_sound : (old new : StateValue) (i : ℕ) (spec : SetSpec) → IsSound old → IsNext old i spec
+    → IsStarted spec old new → IsSound new
 started_is_sound old new i spec sound next s =
     let run = task_run old.task in
     let harts = old.task.machine.harts in
@@ -267,5 +272,6 @@ all_started t n s started all empty =
     let count : start_orders s.past ≡ length installs =
     ap start_orders started.past ∙ start_orders_of (take n installs) ∙ ap length (take_all n installs all) in
     let none : slice_get s.task.plan.installs (start_orders s.past) ≡ None =
-    ap (λ (x : Task). slice_get x.plan.installs (start_orders s.past)) started.task ∙ ap (slice_get installs) count ∙ slice_get_past installs (length installs) (omega arith) in
+    ap (λ (x : Task). slice_get x.plan.installs (start_orders s.past)) started.task ∙ ap (slice_get installs) count
+    ∙ slice_get_past installs (length installs) (omega arith) in
     inr (nothing_is_wanted (task_run s.task) s.past (ap (λ (x : Task). x.plan.script) started.task ∙ empty) none)

@@ -26,7 +26,7 @@ pub(crate) fn with_item(past: &Trace<Item>, item: Item) -> Trace<Item>
 }
 
 /// The log with so many steps of a hart more.
-fn with_steps(past: &Trace<Item>, no: u8, count: u32) -> Trace<Item>
+pub(crate) fn with_steps(past: &Trace<Item>, no: u8, count: u32) -> Trace<Item>
     requires some { 1 ≤ count }
     ensures steps { result.items ≡ steps no count past.now.items }
 {

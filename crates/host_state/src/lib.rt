@@ -16,5 +16,8 @@ mod reading;
 mod returning;
 mod specs;
 mod states;
+mod summing;
 mod tables;
 mod tasks;
+mod turning;
+mod wholeness;

@@ -1,7 +1,7 @@
 //! The state before the first hold: the plan's installs are placed, one after the other.
 
-ghost use Rattle.std.specs.Prelude.{◌≡◌, ◌∷◌, ◌<◌, ◌≤◌, ◌+◌, ◌*◌, [], Some, None, false, length, map, option_map, replicate, slice_index_or, vec_len};
-ghost use Rattle.std.specs.Prelude.{All, IfOk, OnOk};
+ghost use Rattle.std.specs.Prelude.{◌≡◌, ◌∷◌, ◌<◌, ◌≤◌, ◌+◌, ◌*◌, [], Some, None, false, length, map, option_map, replicate};
+ghost use Rattle.std.specs.Prelude.{slice_index_or, vec_len, All, IfOk, OnOk};
 ghost use Rattle.flat_model.specs.declared.limits.TheConstants.{PLUGINS_MOST, RACK_BOXES};
 ghost use Rattle.flat_model.specs.declared.journals.Item.TheVariants.{Ordered};
 ghost use Rattle.flat_model.specs.declared.journals.Order.TheVariants.{Install};
@@ -207,8 +207,8 @@ impl<W: Watcher, C: Closer<Held<W>>> HostState<W, C> {
         Ok(self)
     }
 
-    /// The state before the first hold: the plan's installs stand, and the plan wants nothing more. The rack has a box for
-    /// each subscription that calls and each hart, and a closer for each plug-in.
+    /// The state before the first hold: the plan's installs stand, and the plan wants nothing more. The rack has 128 boxes and
+    /// 8 closers at least.
     pub fn new(
         alloc: Global,
         image: Arc<Image>,

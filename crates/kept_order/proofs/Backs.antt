@@ -130,10 +130,10 @@ gives_owed run h plugin past may =
 abbrev without_back : Plugin → ℕ → Plugin
 without_back p h = record p { owing = slice_set p.owing h false }
 
-same_sets : (r : Plugins) (h number p : ℕ) → sets_of (after_back h number r) p ≡ sets_of r p
+pub same_sets : (r : Plugins) (h number p : ℕ) → sets_of (after_back h number r) p ≡ sets_of r p
 same_sets r h number p = placed_sets r number p (without_back (plugin_of r number) h) refl
 
-same_long : (r : Plugins) (h number : ℕ) → length (after_back h number r).plugins ≡ length r.plugins
+pub same_long : (r : Plugins) (h number : ℕ) → length (after_back h number r).plugins ≡ length r.plugins
 same_long r h number = length-set r.plugins (number - 1) (without_back (plugin_of r number) h)
 
 same_attachment : (run : Run) (h number p j : ℕ) (past : List Item)
@@ -282,7 +282,7 @@ sets_return run h plugin past o legal state =
 
 -- The closers.
 
-state_keeps : (ps : List Plugin) (k : ℕ) (x : Plugin) (i : ℕ) → x.state ≡ (slice_index_or ps k no_plugin).state
+pub state_keeps : (ps : List Plugin) (k : ℕ) (x : Plugin) (i : ℕ) → x.state ≡ (slice_index_or ps k no_plugin).state
     → (slice_index_or (slice_set ps k x) i no_plugin).state ≡ (slice_index_or ps i no_plugin).state
 state_keeps [] k x i is = refl
 state_keeps (p ∷ ps) zero x zero is = is

@@ -85,15 +85,15 @@ nothing_there image pc (inr (inr (inl absent))) = let e : pc + 4 * 0 ≡ pc = om
 nothing_there image pc (inr (inr (inr (last, is_last, ends)))) = absurd (omega (arith, is_last))
 
 -- a hart that may go on, at the start of a block
-record Starts (m : Machine) (hart : HartState) (shared : Shared) (block : Stretch) : Type 0 where
-  is : IsBlock m.image hart.pc block
-  since : hart.since ≡ 0
-  aligned : hart.pc % 4 ≡ 0
-  small : hart.pc < 2 ^ 64
-  awake : hart.parked ≡ false
-  quiet : shared.group ≡ None
+pub record Starts (m : Machine) (hart : HartState) (shared : Shared) (block : Stretch) : Type 0 where
+  pub is : IsBlock m.image hart.pc block
+  pub since : hart.since ≡ 0
+  pub aligned : hart.pc % 4 ≡ 0
+  pub small : hart.pc < 2 ^ 64
+  pub awake : hart.parked ≡ false
+  pub quiet : shared.group ≡ None
 
-abbrev AllInside : Machine → ℕ → ℕ → HartState → Shared → Type 0
+abbrev pub AllInside : Machine → ℕ → ℕ → HartState → Shared → Type 0
 AllInside m h k hart shared = (j : ℕ) → j < k → GoesInside j (steps_of m h j hart shared).hart
 
 -- so many steps later it may still go on
@@ -149,13 +149,19 @@ within m h (suc k) hart shared block s inside =
     omega (arith, low, last)
 
 -- where a word is, it is one of the block
+pub among_words : (m : Machine) (h k : ℕ) (hart : HartState) (shared : Shared) (block : Stretch) → Starts m hart shared block
+    → AllInside m h (suc k) hart shared → (w : ℕ) → word_at m.image (steps_of m h k hart shared).hart.pc ≡ Some w → k < block.n
+among_words m h k hart shared block s inside w present =
+    let low = within m h k hart shared block s inside in
+    let other : k ≡ block.n → ⊥ = λ last. let e = sym present ∙ absent_behind m h k hart shared block s inside last in absurd (cc) in
+    omega (arith, low, other)
+
 placed : (m : Machine) (h k : ℕ) (hart : HartState) (shared : Shared) (block : Stretch) → Starts m hart shared block
     → AllInside m h (suc k) hart shared → (w : ℕ) → word_at m.image (steps_of m h k hart shared).hart.pc ≡ Some w
     → IsInside block (steps_of m h k hart shared).hart.pc
 placed m h k hart shared block s inside w present =
     let low = within m h k hart shared block s inside in
-    let other : k ≡ block.n → ⊥ = λ last. let e = sym present ∙ absent_behind m h k hart shared block s inside last in absurd (cc) in
-    let below : k < block.n = omega (arith, low, other) in
+    let below = among_words m h k hart shared block s inside w present in
     record {
       word = k;
       within = let all = s.is.all in omega arith;

@@ -28,3 +28,4 @@ pub mod Seats
 pub mod TellsInside
 pub mod InBlocks
 pub mod Wakings
+pub mod BackChanges

@@ -63,7 +63,7 @@ none_first None b none = refl
 none_first (Some x) b none = absurd cc
 
 -- where all lines that have come are judged, none is owed
-wants_none : (run : Run) (past now : List Item) → IsNonDecreasingBy (λ t. t.when) run.plan.script → start_orders now ≡ start_orders past
+pub wants_none : (run : Run) (past now : List Item) → IsNonDecreasingBy (λ t. t.when) run.plan.script → start_orders now ≡ start_orders past
     → next_line run now ≡ come run now → wanted run past ≡ None → wanted run now ≡ None
 unfolding wanted
 wants_none run past now rising starts next none =

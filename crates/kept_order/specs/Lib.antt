@@ -9,6 +9,6 @@ pub mod Ordering
 pub mod Returning
 pub mod Closing
 pub mod Going
-pub mod Withdrawing
 pub mod Lying
 pub mod Waking
+pub mod Withdrawing

@@ -1,13 +1,17 @@
 -- What becomes of the stored state where a hart gives a plug-in back: its set is parked, from the hart or from where it waited.
-use Rattle.std.specs.Prelude.{◌≡◌, ◌-◌, ℕ, ◌==◌, not, List, ◌∷◌, filter, Option, Some, None}
+use Rattle.std.specs.Prelude.{◌≡◌, ◌-◌, ℕ, ◌==◌, ◌&&◌, not, List, ◌∷◌, filter, length, Option, Some, None}
+use Rattle.std.specs.List.Sorted.{IsNonDecreasingBy}
 use Rattle.std.specs.Option.{option_or}
 use Rattle.flat_model.specs.declared.journals.Item.{Item}
 use Rattle.flat_model.specs.declared.journals.Item.TheVariants.{GaveBack}
 use Rattle.flat_model.specs.Log.{log}
-use Rattle.flat_model.specs.Registry.{after_back}
+use Rattle.flat_model.specs.Registry.{after_back, owes}
+use Rattle.flat_model.specs.Worlds.{world}
 use Rattle.watcher_api.specs.Attachment.{Attachment, without}
-use Rattle.run_rules.specs.Guest.{Run}
-use Rattle.run_rules.specs.Legal.{Legal}
+use Rattle.run_rules.specs.Guest.{Run, plugins}
+use Rattle.run_rules.specs.Heard.{waiting}
+use Rattle.run_rules.specs.Due.{wanted}
+use Rattle.run_rules.specs.Legal.{Legal, is_there, asks_nothing}
 use Rattle.run_rules.specs.Places.{is_waiting, is_with_hart}
 use Rattle.run_order.specs.Sets.{placed_at, sets_for}
 use Rattle.run_order.specs.Laws.{with_place}
@@ -49,3 +53,17 @@ pub record IsWithout (run : Run) (h plugin : ℕ) (past : List Item) : Type 0 wh
 
 abbrev pub BacksTakeSets : Type 0
 BacksTakeSets = (run : Run) (h plugin : ℕ) (past : List Item) → IsWithout run h plugin past
+
+-- what a Back leaves as it was: the hart owes this one no more, and the others as before
+pub record HasGivenBack (t : Task) (h plugin : ℕ) (past now : List Item) : Type 0 where
+  pub world : world t.machine t.mode now ≡ world t.machine t.mode past
+  pub there : is_there (task_run t) h now ≡ is_there (task_run t) h past
+  pub as_many : length (plugins (task_run t) now).plugins ≡ length (plugins (task_run t) past).plugins
+  pub asks : (p : ℕ) → waiting (task_run t) p h now ≡ waiting (task_run t) p h past
+  pub quiet : asks_nothing (task_run t) h now ≡ asks_nothing (task_run t) h past
+  pub none : wanted (task_run t) past ≡ None → wanted (task_run t) now ≡ None
+  pub owes : (p : ℕ) → owes (plugins (task_run t) now) h p ≡ (not (plugin == p) && owes (plugins (task_run t) past) h p)
+
+abbrev pub BacksChangeLittle : Type 0
+BacksChangeLittle = (t : Task) (h plugin : ℕ) (past : List Item) → IsNonDecreasingBy (λ t. t.when) t.plan.script
+    → Legal (task_run t) (GaveBack h plugin ∷ past) → HasGivenBack t h plugin past (GaveBack h plugin ∷ past)

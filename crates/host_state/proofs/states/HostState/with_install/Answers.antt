@@ -78,4 +78,6 @@ pub returns : goal.returns
 returns g c =
     let next = is_next c.args.self _ c.args.i c.in_ok-spec.spec c.install.result.now c.self.view_is c.requires.started c.requires.there
     c.requires.allowed c.self.invariant c.install.ensures.install c.in_ok-spec.ensures in
-    record { started = started_more c.args.self _ _ c.args.i c.in_ok-spec.spec c.self.view_is next refl c.in_ok-self-inside.ensures.past refl }
+    record {
+      started = started_more c.args.self _ _ c.args.i c.in_ok-spec.spec c.self.view_is next refl c.in_ok-self-inside.ensures.past refl;
+    }

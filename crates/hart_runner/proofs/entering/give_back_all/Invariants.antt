@@ -1,0 +1,9 @@
+use Rattle.std.proofs.Common.{◌≡◌, false}
+use Rattle.hart_runner.proofs.GivingBacks.{ReturnsSoFar}
+use Rattle.hart_runner.proofs.entering.give_back_all.Given as goal
+
+abbrev pub invariant-loop-place : goal.invariant-loop-place
+invariant-loop-place g l = record {
+  so_far : ReturnsSoFar l.no l.place l.fn.state l.state l.attached l.specs;
+  nothing : l.some ≡ false → (l.state ≡ l.fn.state) × (l.attached ≡ l.fn.attached) × (l.specs ≡ l.fn.specs);
+}
