@@ -1,3 +1,4 @@
+pub mod Logs
 pub mod GivingBacks
 pub mod Entered
 pub mod Lists

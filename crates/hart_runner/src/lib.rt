@@ -6,5 +6,6 @@ pub use seats::Seat;
 
 mod delivering;
 mod entering;
+mod going_ahead;
 mod runners;
 mod seats;
