@@ -61,7 +61,7 @@ of_run old new h rest there =
 
 -- What is noted is what waits.
 
-live_within : (r : Plugins) (p : ℕ) → 1 ≤ p → is_live (plugin_of r p).state ≡ true → p ≤ length r.plugins
+pub live_within : (r : Plugins) (p : ℕ) → 1 ≤ p → is_live (plugin_of r p).state ≡ true → p ≤ length r.plugins
 live_within r p one live =
     elim (cases_Bool (nat_le p (length r.plugins))) [
       | inl low ↦ leb-true p (length r.plugins) low

@@ -1,4 +1,6 @@
 pub mod Logs
+pub mod Wants
 pub mod GivingBacks
 pub mod Entered
+pub mod Held
 pub mod Lists

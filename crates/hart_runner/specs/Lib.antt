@@ -1,3 +1,4 @@
 pub mod Seats
 pub mod Entering
 pub mod Lists
+pub mod Holds

@@ -12,6 +12,7 @@ use rv_exec::Hart;
 use watcher_api::Watcher;
 
 /// A hart that has gone ahead by so many steps.
+#[derive(Clone, Copy)]
 pub(crate) struct Ahead {
     pub hart: Hart,
     pub ran: u32,

@@ -7,5 +7,6 @@ pub use seats::Seat;
 mod delivering;
 mod entering;
 mod going_ahead;
+mod holding;
 mod runners;
 mod seats;
