@@ -1,7 +1,7 @@
 -- What a hart's part of a hold leaves.
 use Rattle.std.proofs.Common.{◌≡◌, ◌&&◌, ◌||◌, ◌+◌, ◌<◌, ◌≤◌, ◌%◌, ◌^◌, ◌++◌, ◌∷◌, [], ◌∙◌, ℕ, zero, suc, Bool, true, false, not, List}
 use Rattle.std.proofs.Common.{Option, Some, None, refl, sym, ap, subst, arith, inl, inr, length}
-use Rattle.std.specs.Prelude.{is_some, IsSome, replicate, slice_index_or, All}
+use Rattle.std.specs.Prelude.{ℤ, is_some, IsSome, replicate, slice_index_or, All}
 use Rattle.std.specs.List.{list_all, range_with_len}
 use Rattle.std.specs.Cmp.Derive.{both_true}
 use Rattle.std.proofs.lemmas.Bool.{cases_Bool, false≢true}
@@ -17,7 +17,7 @@ use Rattle.flat_model.specs.declared.limits.TheConstants.{BLOCK_WORDS}
 use Rattle.flat_model.specs.Log.{party, steps, journaled, total_steps}
 use Rattle.flat_model.specs.Registry.{plugin_of}
 use Rattle.flat_model.specs.Step.{steps_of}
-use Rattle.flat_model.specs.World.{HartState, World}
+use Rattle.flat_model.specs.World.{HartState, Shared, World}
 use Rattle.flat_model.specs.Worlds.{world, hart_of}
 use Rattle.block_finder.specs.Block.{Stretch, IsBlock}
 use Rattle.baton_gate.specs.Logs.{GoesOn}
@@ -240,6 +240,13 @@ pub same_hart : (t : Task) (past : List Item) (h k : ℕ) (hart other : HartStat
     → hart ≡ hart_of t.machine t.mode past h → other ≡ hart_of t.machine t.mode past k
 same_hart t past h k hart other number same is = same ∙ is ∙ ap (hart_of t.machine t.mode past) (sym number)
 
+-- the block is where the hart is
+pub starts_so : (t u : Task) (hart other : HartState) (block : Stretch) → u ≡ t → other ≡ hart → IsBlock t.machine.image hart.pc block
+    → IsBlock u.machine.image other.pc block
+starts_so t u hart other block task same is =
+    subst (λ (x : Task). IsBlock x.machine.image other.pc block) (sym task)
+    (subst (λ (x : HartState). IsBlock t.machine.image x.pc block) (sym same) is)
+
 -- one that has ended
 pub ended_seated : (h : ℕ) (first new : StateValue) (sets : List Attachment) (filters : List (ℕ × SetSpec)) (hart : HartState)
     (noted : List Ask) → HasEntered h first.past new sets filters → new.task ≡ first.task
@@ -258,3 +265,28 @@ ended_leaves h first new sets filters hart entered order task is ended =
     may_leave h first.past new sets filters hart entered order here
     (finished_ended (run.guest.has_ended new.past h) (run.guest.is_over new.past) (run.guest.is_parked new.past h)
     (list_all (is_idle run new.past) (range_with_len 0 run.harts)) (ap (λ (x : HartState). is_some x.ending) (sym here) ∙ ended))
+
+-- one that runs, where the group has ended
+pub running_seated : (h : ℕ) (first new : StateValue) (sets : List Attachment) (filters : List (ℕ × SetSpec)) (hart : HartState)
+    (noted : List Ask) → HasEntered h first.past new sets filters → new.task ≡ first.task
+    → hart ≡ hart_of first.task.machine first.task.mode first.past h → hart.since ≡ 0 → hart.steps < first.task.machine.limit
+    → noted ≡ replicate 8 Stay → IsSeated new.task h new.past hart sets filters noted
+running_seated h first new sets filters hart noted entered task is begins below none =
+    seated h first.past new sets filters hart noted entered (entered_hart first.task h first.past new sets filters hart entered task is)
+    (λ goes. begins) (λ goes. subst (λ (t : Task). hart.steps < t.machine.limit) (sym task) below) none
+
+-- the group of a state in order has ended
+group_over : (s : StateValue) (code : Option ℤ) → InOrder s.task (stored_of s) → code ≡ s.services.group → is_some code ≡ true
+    → (task_run s.task).guest.is_over s.past ≡ true
+group_over s code order is some =
+    ap (λ (x : Shared). is_some x.group) (sym order.shared) ∙ ap (λ (o : Option ℤ). is_some o) (sym is) ∙ some
+
+pub over_leaves : (h : ℕ) (first new : StateValue) (sets : List Attachment) (filters : List (ℕ × SetSpec)) (hart : HartState)
+    (code : Option ℤ) → HasEntered h first.past new sets filters → InOrder new.task (stored_of new)
+    → hart ≡ hart_of new.task.machine new.task.mode new.past h → code ≡ new.services.group → is_some code ≡ true
+    → MayLeave h new hart sets
+over_leaves h first new sets filters hart code entered order is group some =
+    let run = task_run new.task in
+    may_leave h first.past new sets filters hart entered order is
+    (finished_over (run.guest.has_ended new.past h) (run.guest.is_over new.past) (run.guest.is_parked new.past h)
+    (list_all (is_idle run new.past) (range_with_len 0 run.harts)) (group_over new code order group some))
