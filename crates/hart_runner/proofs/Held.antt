@@ -30,13 +30,15 @@ use Rattle.run_rules.specs.Guest.{Run, plugins}
 use Rattle.run_rules.specs.Heard.{is_live, waiting}
 use Rattle.run_rules.specs.Due.{start_orders, wanted}
 use Rattle.run_rules.specs.Laws.{MayTurn}
-use Rattle.run_rules.specs.Legal.{Legal, is_there, owes_any, asks_nothing, passes_nothing_by, is_idle, is_finished}
+use Rattle.run_rules.specs.Legal.{Legal, is_there, owes_any, asks_nothing, passes_nothing_by, is_idle, is_finished, may_leave}
 use Rattle.run_rules.specs.Places.{IsStateLog, is_with_hart}
+use Rattle.run_rules.proofs.Turns.{rest_true}
 use Rattle.run_order.specs.Sets.{sets_for}
 use Rattle.run_order.specs.InOrder.{Task, InOrder, task_run}
 use Rattle.kept_order.specs.Hearing.{specs_for}
 use Rattle.kept_order.specs.Lying.{GoesInside}
 use Rattle.kept_order.proofs.Asked.{waits_dead}
+use Rattle.kept_order.proofs.Gone.{there_low}
 use Rattle.kept_order.proofs.InBlocks.{events_lie_in_blocks}
 use Rattle.kept_order.proofs.Ranges.{all_at}
 use Rattle.kept_order.proofs.Rows.{turns_begin}
@@ -95,11 +97,11 @@ seated h seen s sets filters hart noted entered is begins below none = record {
 }
 
 -- where its hart is finished it may leave
-pub may_leave : (h : ℕ) (seen : List Item) (s : StateValue) (sets : List Attachment) (filters : List (ℕ × SetSpec)) (hart : HartState)
+pub leaves_so : (h : ℕ) (seen : List Item) (s : StateValue) (sets : List Attachment) (filters : List (ℕ × SetSpec)) (hart : HartState)
     → HasEntered h seen s sets filters → InOrder s.task (stored_of s) → hart ≡ hart_of s.task.machine s.task.mode s.past h
     → is_finished (task_run s.task) h s.past ≡ true → MayLeave h s hart sets
 unfolding Legal
-may_leave h seen s sets filters hart entered order is finished = record {
+leaves_so h seen s sets filters hart entered order is finished = record {
   open_now = entered.open_now;
   legal = (
     order.legal,
@@ -262,7 +264,7 @@ pub ended_leaves : (h : ℕ) (first new : StateValue) (sets : List Attachment) (
 ended_leaves h first new sets filters hart entered order task is ended =
     let here = entered_hart first.task h first.past new sets filters hart entered task is in
     let run = task_run new.task in
-    may_leave h first.past new sets filters hart entered order here
+    leaves_so h first.past new sets filters hart entered order here
     (finished_ended (run.guest.has_ended new.past h) (run.guest.is_over new.past) (run.guest.is_parked new.past h)
     (list_all (is_idle run new.past) (range_with_len 0 run.harts)) (ap (λ (x : HartState). is_some x.ending) (sym here) ∙ ended))
 
@@ -287,6 +289,59 @@ pub over_leaves : (h : ℕ) (first new : StateValue) (sets : List Attachment) (f
     → MayLeave h new hart sets
 over_leaves h first new sets filters hart code entered order is group some =
     let run = task_run new.task in
-    may_leave h first.past new sets filters hart entered order is
+    leaves_so h first.past new sets filters hart entered order is
     (finished_over (run.guest.has_ended new.past h) (run.guest.is_over new.past) (run.guest.is_parked new.past h)
     (list_all (is_idle run new.past) (range_with_len 0 run.harts)) (group_over new code order group some))
+
+-- A hart that was parked as the hold began.
+
+pub parked_seated : (h : ℕ) (first new : StateValue) (sets : List Attachment) (filters : List (ℕ × SetSpec)) (old hart : HartState)
+    (noted : List Ask) (woken : Bool) → HasEntered h first.past new sets filters → new.task ≡ first.task
+    → hart ≡ hart_of new.task.machine new.task.mode new.past h
+    → (woken ≡ true → (hart.parked ≡ false) × (hart.since ≡ 0) × (hart.steps < new.task.machine.limit)) → (woken ≡ false → hart ≡ old)
+    → (old.ending ≡ None → old.since ≡ 0) → (old.ending ≡ None → old.steps < first.task.machine.limit) → noted ≡ replicate 8 Stay
+    → IsSeated new.task h new.past hart sets filters noted
+parked_seated h first new sets filters old hart noted true entered task is woken asleep begins below none =
+    seated h first.past new sets filters hart noted entered is (λ goes. (woken refl).1) (λ goes. (woken refl).2) none
+parked_seated h first new sets filters old hart noted false entered task is woken asleep begins below none =
+    let same : hart ≡ old = asleep refl in
+    let Goes : HartState → Type 0 = λ x. (x.ending ≡ None → x.since ≡ 0) × (x.ending ≡ None → x.steps < new.task.machine.limit) in
+    let goes : Goes hart =
+    subst Goes (sym same) (begins, λ running. subst (λ (t : Task). old.steps < t.machine.limit) (sym task) (below running)) in
+    seated h first.past new sets filters hart noted entered is goes.0 goes.1 none
+
+pub deserted_leaves : (h : ℕ) (first new : StateValue) (sets : List Attachment) (filters : List (ℕ × SetSpec)) (hart : HartState)
+    → HasEntered h first.past new sets filters → InOrder new.task (stored_of new)
+    → hart ≡ hart_of new.task.machine new.task.mode new.past h → hart.parked ≡ true
+    → ((k : ℕ) → k < new.task.machine.harts → (hart_of new.task.machine new.task.mode new.past k).parked ≡ true
+    → is_finished (task_run new.task) k new.past ≡ true)
+    → MayLeave h new hart sets
+deserted_leaves h first new sets filters hart entered order is parked finished =
+    leaves_so h first.past new sets filters hart entered order is
+    (finished h (there_low (task_run new.task) h new.past entered.there) (ap (λ (x : HartState). x.parked) (sym is) ∙ parked))
+
+-- A hart that leaves.
+
+none_wanted : (o : Option Item) → not (is_some o) ≡ true → o ≡ None
+none_wanted None is = refl
+none_wanted (Some item) is = absurd (false≢true is)
+
+left_starts : (h : ℕ) (past : List Item) → start_orders (Left h ∷ past) ≡ start_orders past
+unfolding start_orders
+left_starts h past = refl
+
+leaves_caught_up : (run : Run) (h : ℕ) (past : List Item) → may_leave run h past ≡ true → wanted run past ≡ None
+leaves_caught_up run h past may =
+    let rest = rest_true (is_there run h past) _ may in
+    let rest' = rest_true (is_finished run h past) _ rest in
+    let rest'' = rest_true (not (owes_any run h past)) _ rest' in
+    none_wanted (wanted run past) (rest_true (asks_nothing run h past) _ rest'')
+
+pub left_caught_up : (h : ℕ) (old new : StateValue) (hart : HartState) (sets : List Attachment) → MayLeave h old hart sets
+    → old.task.plan.script ≡ [] → new.past ≡ Left h ∷ old.past → new.task ≡ old.task → IsCaughtUp new
+unfolding Legal
+left_caught_up h old new hart sets may plain past task =
+    inr (ap (λ (t : Task). wanted (task_run t) new.past) task
+    ∙ ap (λ (xs : List Item). wanted (task_run old.task) xs) past
+    ∙ still_wants_none (task_run old.task) old.past (Left h ∷ old.past) plain (left_starts h old.past)
+    (leaves_caught_up (task_run old.task) h old.past may.legal.1))

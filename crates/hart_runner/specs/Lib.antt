@@ -2,3 +2,4 @@ pub mod Seats
 pub mod Entering
 pub mod Lists
 pub mod Holds
+pub mod Parts

@@ -8,5 +8,6 @@ mod delivering;
 mod entering;
 mod going_ahead;
 mod holding;
+mod parts;
 mod runners;
 mod seats;
