@@ -345,3 +345,14 @@ left_caught_up h old new hart sets may plain past task =
     ∙ ap (λ (xs : List Item). wanted (task_run old.task) xs) past
     ∙ still_wants_none (task_run old.task) old.past (Left h ∷ old.past) plain (left_starts h old.past)
     (leaves_caught_up (task_run old.task) h old.past may.legal.1))
+
+pub left_hold : (h k : ℕ) (old mid new : StateValue) → IsHold h old mid → k ≡ h → new.past ≡ Left k ∷ mid.past → IsCaughtUp new
+    → new.task ≡ mid.task → IsHold h old new
+left_hold h k old mid new hold same past caught_up task = record {
+  own = goes_on (λ i. party i ≡ h) (λ i. party i ≡ h) (λ i. party i ≡ h) old.past mid.past new.past hold.own
+      (goes_same (λ i. party i ≡ h) mid.past (Left k ∷ mid.past) new.past (goes_once (λ i. party i ≡ h) mid.past (Left k) same) (sym past))
+      (λ i own. own) (λ i own. own);
+  few = omega (arith, hold.few, ap total_steps past);
+  caught_up = caught_up;
+  task = task ∙ hold.task;
+}

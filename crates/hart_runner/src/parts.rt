@@ -69,3 +69,30 @@ pub(crate) fn take_still_part<W: Watcher, C: Closer<Held<W>>>(
     }
     Ok(hold)
 }
+
+/// The part of a hart that runs and has gone ahead in its block; it leaves where it is to.
+pub(crate) fn take_running_part<W: Watcher, C: Closer<Held<W>>>(
+    state: &mut HostState<W, C>,
+    place: &mut Option<Seat<W>>,
+    ahead: Ahead,
+    block: &Block,
+) -> Result<Hold, NoMemory>
+    requires comes { MatchOption place.old ⊥ (λ seat. ComesAhead state.old seat ahead block.now) }
+    requires caught_up { IsCaughtUp state.old }
+    requires plain { state.old.task.plan.script ≡ [] }
+    ensures part { MatchOption place.old ⊥
+        (λ seat. IfOk result (λ hold. IsPart hold state.old.past state.new block.now seat place.new)) }
+    ensures hold { MatchOption place.old ⊥ (λ seat. IsHold seat.no state.old state.new) }
+{
+    let Some(seat) = place else {
+        return Err(NoMemory);
+    };
+    let hold = hold_running(state, seat, ahead, block)?;
+    let Hold::Leaves = hold else {
+        return Ok(hold);
+    };
+    if let Some(seat) = place.take() {
+        leave(state, seat);
+    }
+    Ok(hold)
+}
