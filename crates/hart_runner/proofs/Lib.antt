@@ -4,3 +4,4 @@ pub mod GivingBacks
 pub mod Entered
 pub mod Held
 pub mod Lists
+pub mod Between

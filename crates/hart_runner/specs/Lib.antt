@@ -3,3 +3,4 @@ pub mod Entering
 pub mod Lists
 pub mod Holds
 pub mod Parts
+pub mod Turns

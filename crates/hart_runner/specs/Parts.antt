@@ -1,18 +1,21 @@
 -- What a hart's part of a hold makes of its seat.
-use Rattle.std.specs.Prelude.{◌≡◌, ◌<◌, ◌≤◌, ℕ, true, false, List, ◌∷◌, [], None, IsSome, Option, MatchOption, replicate}
+use Rattle.std.specs.Prelude.{◌≡◌, ◌<◌, ◌≤◌, ℕ, true, false, List, ◌∷◌, [], None, IsSome, Option, MatchOption, All, replicate}
 use Rattle.flat_model.specs.declared.plugins.Ask.TheVariants.{Stay}
 use Rattle.flat_model.specs.declared.journals.Item.{Item}
 use Rattle.flat_model.specs.declared.journals.Item.TheVariants.{Left}
 use Rattle.block_finder.specs.Block.{Stretch, IsBlock}
+use Rattle.baton_gate.specs.Logs.{GoesOn}
+use Rattle.instr_lists.specs.Sorts.{LiesIn}
 use Rattle.run_order.specs.InOrder.{Task}
 use Rattle.host_state.specs.Moving.{IsPrivateTurn}
-use Rattle.host_state.specs.State.{StateValue, IsCaughtUp}
+use Rattle.host_state.specs.State.{StateValue}
+use Rattle.host_state.specs.Taking.{IsGotBy}
 use Rattle.hart_runner.specs.declared.going_ahead.Ahead.{Ahead}
 use Rattle.hart_runner.specs.declared.holding.Hold.{Hold}
 use Rattle.hart_runner.specs.declared.holding.Hold.TheVariants.{Turned, GaveBack, Waits, Leaves}
 use Rattle.hart_runner.specs.declared.seats.Seat.{Seat}
-use Rattle.hart_runner.specs.Seats.{IsBack, Own}
-use Rattle.hart_runner.specs.Holds.{IsAsleep, IsStill, IsHeld}
+use Rattle.hart_runner.specs.Seats.{IsBack, IsSeated, HasWritten, Own}
+use Rattle.hart_runner.specs.Holds.{IsAsleep, HasTurned}
 
 -- hart h left with its last item
 pub record HasLeftThen (h : ℕ) (taken now : List Item) : Type 0 where
@@ -50,18 +53,19 @@ module _ {W : Type 0} where
     pub kept : new.raw.kept ≡ old.raw.kept
 
   -- the seat after the hart's part: there is none once it has left
-  abbrev pub IsStillPart : Hold → List Item → StateValue → Seat W → Option (Seat W) → Type 0
-  IsStillPart Turned taken s old now = ⊥
-  IsStillPart GaveBack taken s old now =
-      MatchOption now ⊥ (λ seat. IsStill GaveBack seat.no taken s seat.hart seat.attached seat.specs seat.asks.first × KeepsLists old seat)
-  IsStillPart Waits taken s old now =
-      MatchOption now ⊥ (λ seat. IsStill Waits seat.no taken s seat.hart seat.attached seat.specs seat.asks.first × KeepsLists old seat)
-  IsStillPart Leaves taken s old now = (now ≡ None) × HasLeftThen old.no taken s.past
+  abbrev pub IsStillPart : Hold → Task → List Item → List Item → Seat W → Option (Seat W) → Type 0
+  IsStillPart Turned t taken past old now = ⊥
+  IsStillPart GaveBack t taken past old now = MatchOption now ⊥ (λ seat.
+      (IsSeated t seat.no past seat.hart seat.attached seat.specs seat.asks.first × HasWritten taken past) × KeepsLists old seat)
+  IsStillPart Waits t taken past old now = MatchOption now ⊥ (λ seat.
+      (IsSeated t seat.no past seat.hart seat.attached seat.specs seat.asks.first × GoesOn (IsGotBy seat.no) taken past) × KeepsLists old seat)
+  IsStillPart Leaves t taken past old now = (now ≡ None) × HasLeftThen old.no taken past
 
-  abbrev pub IsPart : Hold → List Item → StateValue → Stretch → Seat W → Option (Seat W) → Type 0
-  IsPart Turned taken s block old now =
-      MatchOption now ⊥ (λ seat. IsHeld Turned seat.no taken s seat.hart seat.attached seat.specs seat.asks.first seat.raw.events block
+  abbrev pub IsPart : Hold → Task → List Item → List Item → Stretch → Seat W → Option (Seat W) → Type 0
+  IsPart Turned t taken past block old now = MatchOption now ⊥ (λ seat.
+      (HasTurned t seat.no past seat.hart seat.attached seat.specs seat.raw.events × HasWritten taken past
+      × All (λ e. LiesIn block e.what) seat.raw.events)
       × KeepsLists old seat)
-  IsPart GaveBack taken s block old now = IsStillPart GaveBack taken s old now
-  IsPart Waits taken s block old now = IsStillPart Waits taken s old now
-  IsPart Leaves taken s block old now = IsStillPart Leaves taken s old now
+  IsPart GaveBack t taken past block old now = IsStillPart GaveBack t taken past old now
+  IsPart Waits t taken past block old now = IsStillPart Waits t taken past old now
+  IsPart Leaves t taken past block old now = IsStillPart Leaves t taken past old now

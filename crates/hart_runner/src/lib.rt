@@ -11,3 +11,4 @@ mod holding;
 mod parts;
 mod runners;
 mod seats;
+mod turns;
