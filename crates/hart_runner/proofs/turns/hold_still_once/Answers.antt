@@ -5,7 +5,8 @@ use Rattle.baton_gate.specs.Logs.{GoesOn}
 use Rattle.baton_gate.specs.Passes.{seen}
 use Rattle.run_order.specs.InOrder.{InOrder}
 use Rattle.host_state.specs.State.{StateValue, stored_of}
-use Rattle.hart_runner.proofs.Between.{comes_still, is_plain, adds_own, added_at, still_gone}
+use Rattle.hart_runner.specs.Parts.{IsStillPart}
+use Rattle.hart_runner.proofs.Between.{comes_still, is_plain, adds_own, added_at, part_gone}
 use Rattle.hart_runner.proofs.turns.hold_still_once.Goals as goal
 
 pub take_still_part-held-requires-clause-comes : goal.take_still_part-held-requires-clause-comes
@@ -36,7 +37,7 @@ give-requires-clause-log g c =
 pub returns-clause-gone : goal.returns-clause-gone
 returns-clause-gone g c = λ t e.
     let b = c.deref_mut.ensures.value in
-    still_gone c.args.place.now c.take_still_part-held.new.place _ c.args.pass.now.party (seen c.args.pass.now) _ t
+    part_gone (λ hold u taken past seat. IsStillPart hold u taken past seat c.take_still_part-held.new.place) c.args.place.now _ c.args.pass.now.party (seen c.args.pass.now) _ t
     c.deref_mut.result.now c.take_still_part-held.new.state
     (subst (λ (s : StateValue). GoesOn (λ i. party i ≢ c.args.pass.now.party) (seen c.args.pass.now) s.past) (sym b) c.take-state.ensures.log)
     (ap (λ v. v.seen) c.give.ensures.pass.0)
