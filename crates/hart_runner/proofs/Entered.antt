@@ -1,20 +1,23 @@
 -- A state into which a hart has entered: its asks, its Backs and the sets that it took stand in the log.
-use Rattle.std.proofs.Common.{◌≡◌, ◌&&◌, ◌+◌, ◌-◌, ◌<◌, ◌≤◌, ◌++◌, ◌∙◌, ℕ, Bool, true, false, List, None}
+use Rattle.std.proofs.Common.{◌≡◌, ◌&&◌, ◌+◌, ◌-◌, ◌<◌, ◌≤◌, ◌++◌, ◌∙◌, ℕ, zero, suc, Bool, true, false, List, None}
 use Rattle.std.proofs.Common.{refl, sym, ap, subst, arith, inl, inr, length, nat_le}
+use Rattle.std.specs.Prelude.{slice_index_or, replicate}
 use Rattle.std.proofs.lemmas.Bool.{cases_Bool, false≢true, ltb-true, leb-true, leb-false}
 use Rattle.flat_model.specs.declared.plugins.Ask.{Ask}
+use Rattle.flat_model.specs.declared.plugins.Ask.TheVariants.{Stay}
+use Rattle.flat_model.specs.Asks.{stays}
 use Rattle.flat_model.specs.declared.plugins.SetSpec.{SetSpec}
 use Rattle.flat_model.specs.declared.journals.Item.{Item}
 use Rattle.flat_model.specs.declared.journals.Item.TheVariants.{Step, Ordered, GaveBack, Left, Told, Got, Took}
 use Rattle.flat_model.specs.declared.journals.Origin.{Origin}
 use Rattle.flat_model.specs.declared.journals.Origin.TheVariants.{Start, Script, Asked, Control}
-use Rattle.flat_model.specs.Log.{party, giver}
+use Rattle.flat_model.specs.Log.{party, giver, journaled, total_steps}
 use Rattle.flat_model.specs.Registry.{Plugins, Plugin, plugin_of}
 use Rattle.flat_model.specs.World.{HartState}
 use Rattle.flat_model.specs.Worlds.{world}
 use Rattle.rv_exec.specs.Sharing.{ServicesState, HasRoom}
 use Rattle.baton_gate.specs.Logs.{GoesOn}
-use Rattle.baton_gate.proofs.LogLemmas.{goes_on, goes_from}
+use Rattle.baton_gate.proofs.LogLemmas.{goes_nowhere, goes_on, goes_from}
 use Rattle.watcher_api.specs.Acting.{ask_of}
 use Rattle.watcher_api.specs.Attachment.{Attachment}
 use Rattle.run_rules.specs.Guest.{plugins}
@@ -28,14 +31,17 @@ use Rattle.run_order.specs.Sets.{sets_for}
 use Rattle.run_order.specs.InOrder.{Task, InOrder, task_run}
 use Rattle.kept_order.specs.Hearing.{specs_for}
 use Rattle.kept_order.specs.Taking.{LittleIsChanged, StillHolds}
+use Rattle.kept_order.proofs.Asked.{waits_dead}
 use Rattle.kept_order.proofs.Leaves.{knows_harts}
+use Rattle.kept_order.proofs.Ranges.{all_of}
 use Rattle.host_state.specs.Asking.{IsFrom, IsAskedBy}
 use Rattle.host_state.specs.Taking.{IsGotBy}
-use Rattle.host_state.specs.State.{StateValue, stored_of}
+use Rattle.host_state.specs.State.{StateValue, IsCaughtUp, stored_of}
 use Rattle.host_state.proofs.Gathering.{little_changed, holds_still}
-use Rattle.hart_runner.specs.Seats.{IsBack, HasEntered, Own}
-use Rattle.hart_runner.specs.Entering.{MayReturn, HasReturned}
+use Rattle.hart_runner.specs.Seats.{IsBack, HasEntered, HasWritten}
+use Rattle.hart_runner.specs.Entering.{IsBackBy, MayReturn, HasReturned}
 use Rattle.hart_runner.proofs.GivingBacks.{few_plugins}
+use Rattle.hart_runner.proofs.Logs.{IsNoStep, same_total, never_less}
 
 -- a state in which a hart made room
 abbrev pub IsPrepared : StateValue → StateValue → Type 0
@@ -55,7 +61,7 @@ of_run old new h rest there =
 
 -- What is noted is what waits.
 
-live_within : (r : Plugins) (p : ℕ) → 1 ≤ p → is_live (plugin_of r p).state ≡ true → p ≤ length r.plugins
+pub live_within : (r : Plugins) (p : ℕ) → 1 ≤ p → is_live (plugin_of r p).state ≡ true → p ≤ length r.plugins
 live_within r p one live =
     elim (cases_Bool (nat_le p (length r.plugins))) [
       | inl low ↦ leb-true p (length r.plugins) low
@@ -107,6 +113,43 @@ got_own h (Told who plugin) is = absurd is
 got_own h (Got hart plugin) is = is
 got_own h (Took who plugin) is = absurd is
 
+back_own : (h : ℕ) (i : Item) → IsBackBy h i → party i ≡ h
+back_own h (Step hart) is = absurd is
+back_own h (Ordered origin order) is = absurd is
+back_own h (GaveBack hart plugin) is = is
+back_own h (Left hart) is = absurd is
+back_own h (Told who plugin) is = absurd is
+back_own h (Got hart plugin) is = absurd is
+back_own h (Took who plugin) is = absurd is
+
+-- none of this is a step
+asked_still : (h : ℕ) (i : Item) → IsAskedBy h i → IsNoStep i
+asked_still h (Step hart) is = is
+asked_still h (Ordered origin order) is = tt
+asked_still h (GaveBack hart plugin) is = tt
+asked_still h (Left hart) is = tt
+asked_still h (Told who plugin) is = tt
+asked_still h (Got hart plugin) is = tt
+asked_still h (Took who plugin) is = tt
+
+got_still : (h : ℕ) (i : Item) → IsGotBy h i → IsNoStep i
+got_still h (Step hart) is = is
+got_still h (Ordered origin order) is = tt
+got_still h (GaveBack hart plugin) is = tt
+got_still h (Left hart) is = tt
+got_still h (Told who plugin) is = tt
+got_still h (Got hart plugin) is = tt
+got_still h (Took who plugin) is = tt
+
+back_still : (h : ℕ) (i : Item) → IsBackBy h i → IsNoStep i
+back_still h (Step hart) is = is
+back_still h (Ordered origin order) is = tt
+back_still h (GaveBack hart plugin) is = tt
+back_still h (Left hart) is = tt
+back_still h (Told who plugin) is = tt
+back_still h (Got hart plugin) is = tt
+back_still h (Took who plugin) is = tt
+
 -- what the asks leave
 pub record HasAsked (h : ℕ) (old new : StateValue) : Type 0 where
   pub asked : GoesOn (IsAskedBy h) old.past new.past
@@ -148,8 +191,11 @@ entered h first prepared asked returned now before filters sets specs rest room 
     record {
       own = goes_from is prepared.past first.past now.past
           (goes_on is (IsGotBy h) is prepared.past returned.past now.past
-          (goes_on (IsAskedBy h) is is prepared.past asked.past returned.past asks.asked backs.returned.own (asked_own h) (λ i own. own))
+          (goes_on (IsAskedBy h) (IsBackBy h) is prepared.past asked.past returned.past asks.asked backs.returned.backs (asked_own h) (back_own h))
           takes.gots (λ i own. own) (got_own h)) was;
+      total = same_total (IsGotBy h) (got_still h) returned.past now.past takes.gots
+          ∙ same_total (IsBackBy h) (back_still h) asked.past returned.past backs.returned.backs
+          ∙ same_total (IsAskedBy h) (asked_still h) prepared.past asked.past asks.asked ∙ ap total_steps was;
       there = ap (λ (t : Task). is_there (task_run t) h now.past) task ∙ still.there backs.may.there;
       owes_none = ap (λ (t : Task). owes_any (task_run t) h now.past) task ∙ still.owes_none backs.owes_none;
       asks_nothing = ap (λ (t : Task). asks_nothing (task_run t) h now.past) task ∙ still.asks_nothing backs.may.quiet;
@@ -165,3 +211,79 @@ entered h first prepared asked returned now before filters sets specs rest room 
       room = omega (arith, room, asks.room, backs.room, ap (λ (s : StateValue). s.journal.spare) takes.rest);
       output = subst HasRoom (sym services) output;
     }
+
+-- where it gave something back, an entry was added
+pub wrote : (h : ℕ) (first prepared asked returned now : StateValue) → IsPrepared first prepared → HasAsked h prepared asked
+    → GoesOn (IsGotBy h) returned.past now.past → HasWritten asked.past returned.past → HasWritten first.past now.past
+wrote h first prepared asked returned now rest asks gots is =
+    omega (
+      arith,
+      is,
+      never_less (IsGotBy h) returned.past now.past gots,
+      never_less (IsAskedBy h) prepared.past asked.past asks.asked,
+      ap (λ (s : StateValue). length (journaled s.past)) rest,
+    )
+
+-- A parked hart, which asks for nothing.
+
+at_replicate : (n i : ℕ) → slice_index_or (replicate n Stay) i Stay ≡ Stay
+at_replicate zero i = refl
+at_replicate (suc n) zero = refl
+at_replicate (suc n) (suc i) = at_replicate n i
+
+pub quiet_noted : (noted : List Ask) (p : ℕ) → noted ≡ replicate 8 Stay → ask_of p noted ≡ Stay
+quiet_noted noted p none = ap (ask_of p) none ∙ at_replicate 8 (p - 1)
+
+wants_none : (s : StateValue) → s.short ≡ false → IsCaughtUp s → wanted (task_run s.task) s.past ≡ None
+wants_none s open_now (inl short) = absurd (false≢true (sym open_now ∙ short))
+wants_none s open_now (inr none) = none
+
+pub asks_none : (old new : StateValue) (h : ℕ) (hart : HartState) (attached : List Attachment) (filters : List (ℕ × SetSpec))
+    (noted : List Ask) → IsPrepared old new → InOrder new.task (stored_of new)
+    → IsBack old.task h old.past hart attached filters noted → noted ≡ replicate 8 Stay
+    → asks_nothing (task_run new.task) h new.past ≡ true
+asks_none old new h hart attached filters noted rest order back none =
+    let run = task_run new.task in
+    let r = plugins run new.past in
+    all_of (λ p. stays (waiting run p h new.past)) 1 (length r.plugins) (λ p one most.
+    elim (cases_Bool (is_live (plugin_of r p).state)) [
+      | inl live ↦
+          let lives : is_live (plugin_of new.registry.table p).state ≡ true =
+          ap (λ (x : Plugins). is_live (plugin_of x p).state) order.plugins ∙ live in
+          ap stays (sym (as_noted old new h hart attached filters noted rest order back p one lives) ∙ quiet_noted noted p none)
+      | inr dead ↦ ap stays (waits_dead run p h new.past dead)
+    ])
+
+pub may_return : (old new : StateValue) (h : ℕ) (hart : HartState) (attached : List Attachment) (filters : List (ℕ × SetSpec))
+    (noted : List Ask) → IsPrepared old new → old.short ≡ false → IsCaughtUp old → InOrder new.task (stored_of new)
+    → IsBack old.task h old.past hart attached filters noted → noted ≡ replicate 8 Stay → MayReturn h new attached filters
+may_return old new h hart attached filters noted rest open_now caught_up order back none =
+    let task : new.task ≡ old.task = ap (λ (s : StateValue). s.task) rest in
+    let past : new.past ≡ old.past = ap (λ (s : StateValue). s.past) rest in
+    let there : is_there (task_run new.task) h new.past ≡ is_there (task_run old.task) h old.past =
+    ap (λ (t : Task). is_there (task_run t) h new.past) task ∙ ap (λ (xs : List Item). is_there (task_run old.task) h xs) past in
+    let wants : wanted (task_run new.task) new.past ≡ wanted (task_run old.task) old.past =
+    ap (λ (t : Task). wanted (task_run t) new.past) task ∙ ap (λ (xs : List Item). wanted (task_run old.task) xs) past in
+    let sets : sets_for is_with_hart (task_run new.task) h new.past ≡ sets_for is_with_hart (task_run old.task) h old.past =
+    ap (λ (t : Task). sets_for is_with_hart (task_run t) h new.past) task
+    ∙ ap (λ (xs : List Item). sets_for is_with_hart (task_run old.task) h xs) past in
+    let specs : specs_for (task_run new.task) h new.past ≡ specs_for (task_run old.task) h old.past =
+    ap (λ (t : Task). specs_for (task_run t) h new.past) task ∙ ap (λ (xs : List Item). specs_for (task_run old.task) h xs) past in
+    record {
+      open_now = ap (λ (s : StateValue). s.short) rest ∙ open_now;
+      there = there ∙ back.there;
+      quiet = asks_none old new h hart attached filters noted rest order back none;
+      caught_up = wants ∙ wants_none old open_now caught_up;
+      sets = back.sets ∙ sym sets;
+      specs = back.specs ∙ sym specs;
+    }
+
+pub no_asks : (h : ℕ) (s : StateValue) → HasAsked h s s
+no_asks h s = record { asked = goes_nowhere (IsAskedBy h) s.past; rest = refl; world = refl; room = omega arith }
+
+-- where nothing was given back, sets came and nothing else
+pub only_gots : (h : ℕ) (first prepared returned now : StateValue) → IsPrepared first prepared → returned ≡ prepared
+    → GoesOn (IsGotBy h) returned.past now.past → GoesOn (IsGotBy h) first.past now.past
+only_gots h first prepared returned now rest same gots =
+    goes_from (IsGotBy h) returned.past first.past now.past gots
+    (ap (λ (s : StateValue). s.past) same ∙ ap (λ (s : StateValue). s.past) rest)

@@ -10,9 +10,10 @@ use Rattle.std.proofs.lemmas.Bool.Decides.{nat_tests}
 use Rattle.flat_model.specs.declared.plugins.SetSpec.{SetSpec}
 use Rattle.flat_model.specs.declared.journals.Item.{Item}
 use Rattle.flat_model.specs.declared.journals.Item.TheVariants.{GaveBack}
-use Rattle.flat_model.specs.Log.{party}
+use Rattle.flat_model.specs.Log.{journaled}
 use Rattle.flat_model.specs.Registry.{Plugins, owes}
 use Rattle.flat_model.specs.Worlds.{world}
+use Rattle.baton_gate.specs.Logs.{GoesOn}
 use Rattle.baton_gate.proofs.LogLemmas.{goes_nowhere, goes_once, goes_on}
 use Rattle.watcher_api.specs.Attachment.{Attachment}
 use Rattle.run_rules.specs.Guest.{plugins}
@@ -26,8 +27,9 @@ use Rattle.kept_order.specs.Returning.{HasGivenBack}
 use Rattle.kept_order.proofs.BackChanges.{backs_change_little}
 use Rattle.kept_order.proofs.Withdrawals.{plugins_are_few}
 use Rattle.host_state.specs.State.{StateValue, stored_of}
-use Rattle.hart_runner.specs.Seats.{Own}
-use Rattle.hart_runner.specs.Entering.{MayReturn, HasReturned}
+use Rattle.hart_runner.specs.Seats.{HasWritten}
+use Rattle.hart_runner.proofs.Logs.{never_less}
+use Rattle.hart_runner.specs.Entering.{IsBackBy, MayReturn, HasReturned}
 
 -- what each state knows of the plug-ins
 pub few_plugins : (s : StateValue) → InOrder s.task (stored_of s) → length (plugins (task_run s.task) s.past).plugins ≤ 8
@@ -86,7 +88,7 @@ is_returned old new h plugin attached filters sets specs order rising may owed i
         specs = is.filters;
       };
       returned = record {
-        own = subst (Own h old.past) (sym is.back) (goes_once (λ i. party i ≡ h) old.past (GaveBack h plugin) refl);
+        backs = subst (GoesOn (IsBackBy h) old.past) (sym is.back) (goes_once (IsBackBy h) old.past (GaveBack h plugin) refl);
         rest = is.rest;
         world = ap (λ (t : Task). world t.machine t.mode new.past) task ∙ changed.world;
         as_many = ap (λ (t : Task). length (plugins (task_run t) new.past).plugins) task ∙ changed.as_many;
@@ -96,7 +98,7 @@ is_returned old new h plugin attached filters sets specs order rising may owed i
 
 -- where the hart doesn't owe it
 pub none_returned : (s : StateValue) (h : ℕ) → HasReturned h s s
-none_returned s h = record { own = goes_nowhere (λ i. party i ≡ h) s.past; rest = refl; world = refl; as_many = refl }
+none_returned s h = record { backs = goes_nowhere (IsBackBy h) s.past; rest = refl; world = refl; as_many = refl }
 
 pub none_owed : (s : StateValue) (h plugin p : ℕ) → InOrder s.task (stored_of s) → owes s.registry.table h plugin ≡ false
     → owes (plugins (task_run s.task) s.past) h p ≡ (not (plugin == p) && owes (plugins (task_run s.task) s.past) h p)
@@ -120,7 +122,7 @@ pub record ReturnsSoFar (h place : ℕ) (old now : StateValue) (sets : List Atta
 
 pub returned_twice : (a b c : StateValue) (h : ℕ) → HasReturned h a b → HasReturned h b c → HasReturned h a c
 returned_twice a b c h first next = record {
-  own = goes_on (λ i. party i ≡ h) (λ i. party i ≡ h) (λ i. party i ≡ h) a.past b.past c.past first.own next.own (λ i is. is) (λ i is. is);
+  backs = goes_on (IsBackBy h) (IsBackBy h) (IsBackBy h) a.past b.past c.past first.backs next.backs (λ i is. is) (λ i is. is);
   rest = next.rest
       ∙ ap (λ (s : StateValue). record s {
         past = c.past;
@@ -181,3 +183,16 @@ pub none_more : (some gave : Bool) (old mid new : StateValue) (first now last : 
 none_more true gave old mid new first now last before then' behind so_far one none = absurd (false≢true (sym none))
 none_more false gave old mid new first now last before then' behind so_far one none =
     ((one none).0 ∙ (so_far refl).0, (one none).1 ∙ (so_far refl).1, (one none).2 ∙ (so_far refl).2)
+
+-- a Back stands in the journal, and nothing goes from it
+
+pub one_written : (h plugin : ℕ) (old new : List Item) → new ≡ GaveBack h plugin ∷ old → HasWritten old new
+one_written h plugin old new is = omega (arith, ap (λ (past : List Item). length (journaled past)) is)
+
+pub written_so_far : (some gave : Bool) (old mid new : StateValue) (h : ℕ) → HasReturned h old mid → HasReturned h mid new
+    → (some ≡ true → HasWritten old.past mid.past) → (gave ≡ true → HasWritten mid.past new.past)
+    → (some || gave) ≡ true → HasWritten old.past new.past
+written_so_far true gave old mid new h first next so_far one is =
+    omega (arith, so_far refl, never_less (IsBackBy h) mid.past new.past next.backs)
+written_so_far false gave old mid new h first next so_far one is =
+    omega (arith, one is, never_less (IsBackBy h) old.past mid.past first.backs)

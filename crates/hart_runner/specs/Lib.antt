@@ -1,3 +1,6 @@
 pub mod Seats
 pub mod Entering
 pub mod Lists
+pub mod Holds
+pub mod Parts
+pub mod Turns

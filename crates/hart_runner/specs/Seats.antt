@@ -1,9 +1,10 @@
 -- What a hart's runner knows between its holds, in a hold, and once its part of a hold is done.
-use Rattle.std.specs.Prelude.{◌≡◌, ◌<◌, ◌≤◌, ◌+◌, ◌%◌, ◌^◌, ℕ, true, false, List, None}
+use Rattle.std.specs.Prelude.{◌≡◌, ◌<◌, ◌≤◌, ◌+◌, ◌%◌, ◌^◌, ℕ, true, false, List, None, length, replicate}
 use Rattle.flat_model.specs.declared.plugins.Ask.{Ask}
+use Rattle.flat_model.specs.declared.plugins.Ask.TheVariants.{Stay}
 use Rattle.flat_model.specs.declared.plugins.SetSpec.{SetSpec}
 use Rattle.flat_model.specs.declared.journals.Item.{Item}
-use Rattle.flat_model.specs.Log.{party}
+use Rattle.flat_model.specs.Log.{party, journaled, total_steps}
 use Rattle.flat_model.specs.Registry.{plugin_of, has_left}
 use Rattle.flat_model.specs.World.{HartState}
 use Rattle.flat_model.specs.Worlds.{world, hart_of}
@@ -22,7 +23,7 @@ use Rattle.kept_order.specs.Hearing.{specs_for}
 use Rattle.host_state.specs.State.{StateValue}
 
 -- between its holds: the runner is in order for the log that its pass has seen, its hart hasn't left, and a hart that runs is at the
--- start of a block
+-- start of a block; a parked one asks for nothing
 pub record IsSeated (t : Task) (no : ℕ) (seen : List Item) (h : HartState) (sets : List Attachment) (filters : List (ℕ × SetSpec))
     (noted : List Ask) : Type 0 where
   pub there : is_there (task_run t) no seen ≡ true
@@ -30,6 +31,7 @@ pub record IsSeated (t : Task) (no : ℕ) (seen : List Item) (h : HartState) (se
   pub specs : filters ≡ specs_for (task_run t) no seen
   pub begins : h.ending ≡ None → h.since ≡ 0
   pub below : h.ending ≡ None → h.steps < t.machine.limit
+  pub quiet : h.parked ≡ true → noted ≡ replicate 8 Stay
 
 -- in a hold, as it begins: others have added to the log since; an ask may have lost its wait, and a parked hart may have its start
 pub record IsBack (t : Task) (no : ℕ) (past : List Item) (h : HartState) (attached : List Attachment) (filters : List (ℕ × SetSpec))
@@ -45,10 +47,15 @@ pub record IsBack (t : Task) (no : ℕ) (past : List Item) (h : HartState) (atta
 abbrev pub Own : ℕ → List Item → List Item → Type 0
 Own h seen past = GoesOn (λ i. party i ≡ h) seen past
 
+-- an entry of the journal was added
+abbrev pub HasWritten : List Item → List Item → Type 0
+HasWritten seen past = length (journaled seen) < length (journaled past)
+
 -- in a hold, once asks, Backs and arrived sets are dealt with
 pub record HasEntered (no : ℕ) (seen : List Item) (s : StateValue) (attached : List Attachment) (filters : List (ℕ × SetSpec))
     : Type 0 where
   pub own : Own no seen s.past
+  pub total : total_steps s.past ≡ total_steps seen
   pub there : is_there (task_run s.task) no s.past ≡ true
   pub owes_none : owes_any (task_run s.task) no s.past ≡ false
   pub asks_nothing : asks_nothing (task_run s.task) no s.past ≡ true

@@ -8,8 +8,10 @@ ghost use Rattle.run_rules.specs.Guest.{plugins};
 ghost use Rattle.run_rules.specs.Legal.{owes_any};
 ghost use Rattle.run_order.specs.InOrder.{task_run};
 ghost use Rattle.hart_runner.specs.Entering.{MayReturn, HasReturned};
-ghost use Rattle.hart_runner.specs.Seats.{IsBack, HasEntered};
+ghost use Rattle.hart_runner.specs.Seats.{IsBack, HasEntered, HasWritten};
 ghost use Rattle.host_state.specs.State.{IsCaughtUp};
+ghost use Rattle.host_state.specs.Taking.{IsGotBy};
+ghost use Rattle.baton_gate.specs.Logs.{GoesOn};
 
 use crate::seats::Seat;
 use flat_model::NoMemory;
@@ -62,6 +64,7 @@ fn give_back<W: Watcher, C: Closer<Held<W>>>(
         ≡ (not (plugin == p) && owes (plugins (task_run state.old.task) state.old.past) no p) }
     ensures nothing { result ≡ false
         → (state.new ≡ state.old) × (attached.new ≡ attached.old) × (specs.new ≡ specs.old) }
+    ensures wrote { result ≡ true → HasWritten state.old.past state.new.past }
     ensures room { state.old.journal.spare ≤ state.new.journal.spare + 1 }
 {
     // The moments of the script's lines never fall, so none is due behind a Back.
@@ -87,6 +90,7 @@ fn give_back_all<W: Watcher, C: Closer<Held<W>>>(
     ensures owes_none { owes_any (task_run state.new.task) no state.new.past ≡ false }
     ensures nothing { result ≡ false
         → (state.new ≡ state.old) × (attached.new ≡ attached.old) × (specs.new ≡ specs.old) }
+    ensures wrote { result ≡ true → HasWritten state.old.past state.new.past }
     ensures room { state.old.journal.spare ≤ state.new.journal.spare + 8 }
 {
     let count = plugin_count(state);
@@ -108,6 +112,7 @@ pub(crate) fn enter<W: Watcher, C: Closer<Held<W>>>(
     requires back { IsBack state.old.task seat.old.no state.old.past seat.old.hart seat.old.attached seat.old.specs seat.old.asks.first }
     requires caught_up { IsCaughtUp state.old }
     ensures entered { OnOk result (HasEntered seat.new.no state.old.past state.new seat.new.attached seat.new.specs) }
+    ensures wrote { IfOk result (λ gave_back. gave_back ≡ true → HasWritten state.old.past state.new.past) }
     ensures failed { OnErr result ((state.new.short ≡ true) × (state.new.past ≡ state.old.past)) }
     ensures task { state.new.task ≡ state.old.task }
     ensures asks { OnOk result (seat.new.asks.first ≡ replicate 8 Stay) }
@@ -128,6 +133,41 @@ pub(crate) fn enter<W: Watcher, C: Closer<Held<W>>>(
     let _ = state.task();
     state.ask(seat.no, &seat.asks);
     seat.asks = Asks::none();
+    let gave_back = give_back_all(state, seat.no, &mut seat.attached, &mut seat.specs);
+    let came = state.attach(seat.no, &mut seat.attached, &mut seat.specs);
+    if gave_back || came {
+        seat.generation = next;
+    }
+    Ok(gave_back)
+}
+
+/// The same for a parked hart, whose boxes have nothing to ask for. Where it gave no Back, only sets came.
+pub(crate) fn enter_parked<W: Watcher, C: Closer<Held<W>>>(
+    state: &mut HostState<W, C>,
+    seat: &mut Seat<W>,
+) -> Result<bool, NoMemory>
+    requires back { IsBack state.old.task seat.old.no state.old.past seat.old.hart seat.old.attached seat.old.specs seat.old.asks.first }
+    requires caught_up { IsCaughtUp state.old }
+    requires quiet { seat.old.asks.first ≡ replicate 8 Stay }
+    ensures entered { OnOk result (HasEntered seat.new.no state.old.past state.new seat.new.attached seat.new.specs) }
+    ensures wrote { IfOk result (λ gave_back. gave_back ≡ true → HasWritten state.old.past state.new.past) }
+    ensures gots { IfOk result (λ gave_back. gave_back ≡ false → GoesOn (IsGotBy seat.new.no) state.old.past state.new.past) }
+    ensures failed { OnErr result ((state.new.short ≡ true) × (state.new.past ≡ state.old.past)) }
+    ensures task { state.new.task ≡ state.old.task }
+    ensures lists { OnOk result (seat.new.generation ≡ seat.old.generation → seat.new.specs ≡ seat.old.specs) }
+    ensures rises { OnOk result (seat.old.generation ≤ seat.new.generation) }
+    ensures seat { seat.new ≡ record seat.old {
+      attached = seat.new.attached;
+      specs = seat.new.specs;
+      generation = seat.new.generation;
+    } }
+{
+    let Ok(next) = prepare(state, seat.generation) else {
+        state.fail(seat.no);
+        return Err(NoMemory);
+    };
+    // Each state is in order.
+    let _ = state.task();
     let gave_back = give_back_all(state, seat.no, &mut seat.attached, &mut seat.specs);
     let came = state.attach(seat.no, &mut seat.attached, &mut seat.specs);
     if gave_back || came {

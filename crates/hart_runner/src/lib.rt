@@ -6,5 +6,9 @@ pub use seats::Seat;
 
 mod delivering;
 mod entering;
+mod going_ahead;
+mod holding;
+mod parts;
 mod runners;
 mod seats;
+mod turns;

@@ -11,6 +11,7 @@ pub mod Parking
 pub mod Shelved
 pub mod Departing
 pub mod GivingBack
+pub mod Deserted
 pub mod Starting
 pub mod WholeTurns
 pub mod Finishing

@@ -9,6 +9,7 @@ mod arrivals;
 mod asking;
 mod attaching;
 mod committing;
+mod idling;
 mod leaving;
 mod opening;
 mod ordering;

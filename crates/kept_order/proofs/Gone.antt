@@ -32,7 +32,7 @@ by_no_start m h None none = record { parked = refl; ending = refl }
 by_no_start m h (Some start) none = absurd cc
 
 -- a step of a parked hart changes nothing
-stuck : (m : Machine) (h : ℕ) (hart : HartState) (shared : Shared) → hart.parked ≡ true
+pub stuck : (m : Machine) (h : ℕ) (hart : HartState) (shared : Shared) → hart.parked ≡ true
     → step_of m h hart shared ≡ record { hart = hart; shared = shared; events = [] }
 unfolding step_of
 stuck m h hart shared parked =

@@ -27,6 +27,7 @@ pub mod Asked
 pub mod Seats
 pub mod TellsInside
 pub mod InBlocks
+pub mod Wakings
 pub mod BackChanges
 pub mod Standing
 pub mod Tellings

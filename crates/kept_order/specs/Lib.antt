@@ -10,5 +10,6 @@ pub mod Returning
 pub mod Closing
 pub mod Going
 pub mod Lying
+pub mod Waking
 pub mod Withdrawing
 pub mod Summing

@@ -15,4 +15,5 @@ pub mod returning;
 pub mod summing;
 pub mod taking;
 pub mod turning;
+pub mod waking;
 pub mod withdrawing;

@@ -4,7 +4,7 @@ use Rattle.std.proofs.lemmas.Bool.{false≢true}
 use Rattle.flat_model.specs.Registry.{owes}
 use Rattle.run_order.specs.InOrder.{Task}
 use Rattle.plug_registry.specs.State.{RegistryState}
-use Rattle.hart_runner.proofs.GivingBacks.{is_legal, is_returned}
+use Rattle.hart_runner.proofs.GivingBacks.{is_legal, is_returned, one_written}
 use Rattle.hart_runner.proofs.entering.give_back.Goals as goal
 
 pub collect-requires-clause-legal : goal.collect-requires-clause-legal
@@ -27,5 +27,6 @@ returns-then-owed g c =
       returned = back.returned;
       owes = back.owes;
       nothing = λ none. absurd (false≢true (sym none ∙ c.if-owed.true));
+      wrote = λ gave. one_written c.args.no c.args.plugin _ _ is.back;
       room = is.room;
     }

@@ -1,0 +1,358 @@
+-- What a hart's part of a hold leaves.
+use Rattle.std.proofs.Common.{◌≡◌, ◌&&◌, ◌||◌, ◌+◌, ◌<◌, ◌≤◌, ◌%◌, ◌^◌, ◌++◌, ◌∷◌, [], ◌∙◌, ℕ, zero, suc, Bool, true, false, not, List}
+use Rattle.std.proofs.Common.{Option, Some, None, refl, sym, ap, subst, arith, inl, inr, length}
+use Rattle.std.specs.Prelude.{ℤ, is_some, IsSome, replicate, slice_index_or, All}
+use Rattle.std.specs.List.{list_all, range_with_len}
+use Rattle.std.specs.Cmp.Derive.{both_true}
+use Rattle.std.proofs.lemmas.Bool.{cases_Bool, false≢true}
+use Rattle.flat_model.specs.declared.events.Event.{Event}
+use Rattle.flat_model.specs.declared.events.Ending.{Ending}
+use Rattle.flat_model.specs.declared.plugins.Ask.{Ask}
+use Rattle.flat_model.specs.declared.plugins.Ask.TheVariants.{Stay, Reset, Uninstall}
+use Rattle.flat_model.specs.Asks.{stays}
+use Rattle.flat_model.specs.declared.plugins.SetSpec.{SetSpec}
+use Rattle.flat_model.specs.declared.journals.Item.{Item}
+use Rattle.flat_model.specs.declared.journals.Item.TheVariants.{Step, Left}
+use Rattle.flat_model.specs.declared.limits.TheConstants.{BLOCK_WORDS}
+use Rattle.flat_model.specs.Log.{party, steps, journaled, total_steps}
+use Rattle.flat_model.specs.Registry.{plugin_of}
+use Rattle.flat_model.specs.Step.{steps_of}
+use Rattle.flat_model.specs.World.{HartState, Shared, World}
+use Rattle.flat_model.specs.Worlds.{world, hart_of}
+use Rattle.block_finder.specs.Block.{Stretch, IsBlock}
+use Rattle.baton_gate.specs.Logs.{GoesOn}
+use Rattle.baton_gate.proofs.LogLemmas.{goes_nowhere, goes_once, goes_on, goes_same}
+use Rattle.rv_exec.specs.Sharing.{ServicesState}
+use Rattle.watcher_api.specs.Acting.{ask_of}
+use Rattle.watcher_api.specs.Attachment.{Attachment}
+use Rattle.instr_lists.specs.Sorts.{LiesIn}
+use Rattle.run_rules.specs.Guest.{Run, plugins}
+use Rattle.run_rules.specs.Heard.{is_live, waiting}
+use Rattle.run_rules.specs.Due.{start_orders, wanted}
+use Rattle.run_rules.specs.Laws.{MayTurn}
+use Rattle.run_rules.specs.Legal.{Legal, is_there, owes_any, asks_nothing, passes_nothing_by, is_idle, is_finished, may_leave}
+use Rattle.run_rules.specs.Places.{IsStateLog, is_with_hart}
+use Rattle.run_rules.proofs.Turns.{rest_true}
+use Rattle.run_order.specs.Sets.{sets_for}
+use Rattle.run_order.specs.InOrder.{Task, InOrder, task_run}
+use Rattle.kept_order.specs.Hearing.{specs_for}
+use Rattle.kept_order.specs.Lying.{GoesInside}
+use Rattle.kept_order.proofs.Asked.{waits_dead}
+use Rattle.kept_order.proofs.Gone.{there_low}
+use Rattle.kept_order.proofs.InBlocks.{events_lie_in_blocks}
+use Rattle.kept_order.proofs.Ranges.{all_at}
+use Rattle.kept_order.proofs.Rows.{turns_begin}
+use Rattle.host_state.specs.State.{StateValue, IsCaughtUp, stored_of}
+use Rattle.host_state.specs.Taking.{IsGotBy}
+use Rattle.hart_runner.specs.declared.holding.Hold.TheVariants.{Turned}
+use Rattle.hart_runner.specs.Holds.{IsHold, HasTurned, MayLeave, IsHeld}
+use Rattle.hart_runner.specs.Seats.{IsBack, IsSeated, HasEntered, HasWritten, Own}
+use Rattle.hart_runner.proofs.Entered.{quiet_noted, live_within}
+use Rattle.hart_runner.proofs.Logs.{never_less}
+use Rattle.hart_runner.proofs.Wants.{still_wants_none, same_starts}
+
+-- A hart that has entered.
+
+-- the hart is as it was
+pub entered_hart : (t : Task) (h : ℕ) (seen : List Item) (s : StateValue) (sets : List Attachment) (filters : List (ℕ × SetSpec))
+    (hart : HartState) → HasEntered h seen s sets filters → s.task ≡ t → hart ≡ hart_of t.machine t.mode seen h
+    → hart ≡ hart_of s.task.machine s.task.mode s.past h
+entered_hart t h seen s sets filters hart entered task is =
+    is ∙ ap (λ (x : Task). hart_of x.machine x.mode seen h) (sym task) ∙ ap (λ (w : World). w.harts h) (sym entered.world)
+
+stay_is : (a : Ask) → stays a ≡ true → a ≡ Stay
+stay_is Stay is = refl
+stay_is Reset is = absurd (false≢true is)
+stay_is Uninstall is = absurd (false≢true is)
+
+-- nothing waits on it
+quiet_at : (run : Run) (h : ℕ) (past : List Item) (noted : List Ask) → asks_nothing run h past ≡ true → noted ≡ replicate 8 Stay
+    → (p : ℕ) → 1 ≤ p → p ≤ 8 → ask_of p noted ≡ waiting run p h past
+quiet_at run h past noted quiet none p one most =
+    quiet_noted noted p none
+    ∙ sym (elim (cases_Bool (is_live (plugin_of (plugins run past) p).state)) [
+      | inr dead ↦ waits_dead run p h past dead
+      | inl live ↦
+          stay_is (waiting run p h past)
+          (all_at (λ k. stays (waiting run k h past)) 1 (length (plugins run past).plugins) p quiet one
+          (omega (arith, live_within (plugins run past) p one live)))
+    ])
+
+pub seated : (h : ℕ) (seen : List Item) (s : StateValue) (sets : List Attachment) (filters : List (ℕ × SetSpec)) (hart : HartState)
+    (noted : List Ask) → HasEntered h seen s sets filters → hart ≡ hart_of s.task.machine s.task.mode s.past h
+    → (hart.ending ≡ None → hart.since ≡ 0) → (hart.ending ≡ None → hart.steps < s.task.machine.limit) → noted ≡ replicate 8 Stay
+    → IsSeated s.task h s.past hart sets filters noted
+seated h seen s sets filters hart noted entered is begins below none = record {
+  there = entered.there;
+  order = record {
+    hart = is;
+    attached = entered.sets;
+    asks = quiet_at (task_run s.task) h s.past noted entered.asks_nothing none;
+    closing = tt;
+  };
+  specs = entered.specs;
+  begins = begins;
+  below = below;
+  quiet = λ parked. none;
+}
+
+-- where its hart is finished it may leave
+pub leaves_so : (h : ℕ) (seen : List Item) (s : StateValue) (sets : List Attachment) (filters : List (ℕ × SetSpec)) (hart : HartState)
+    → HasEntered h seen s sets filters → InOrder s.task (stored_of s) → hart ≡ hart_of s.task.machine s.task.mode s.past h
+    → is_finished (task_run s.task) h s.past ≡ true → MayLeave h s hart sets
+unfolding Legal
+leaves_so h seen s sets filters hart entered order is finished = record {
+  open_now = entered.open_now;
+  legal = (
+    order.legal,
+    both_true entered.there (both_true finished (both_true (ap not entered.owes_none)
+        (both_true entered.asks_nothing (ap (λ (o : Option Item). not (is_some o)) entered.caught_up)))),
+  );
+  room = omega (arith, entered.room);
+  is = is;
+  attached = entered.sets;
+}
+
+pub finished_ended : (ended over parked all : Bool) → ended ≡ true → (ended || (over || (parked && all))) ≡ true
+finished_ended true over parked all is = refl
+finished_ended false over parked all is = absurd (false≢true is)
+
+pub finished_over : (ended over parked all : Bool) → over ≡ true → (ended || (over || (parked && all))) ≡ true
+finished_over true over parked all is = refl
+finished_over false true parked all is = refl
+finished_over false false parked all is = absurd (false≢true is)
+
+-- What a hold adds.
+
+pub entered_hold : (h : ℕ) (old new : StateValue) (sets : List Attachment) (filters : List (ℕ × SetSpec))
+    → HasEntered h old.past new sets filters → new.task ≡ old.task → IsHold h old new
+entered_hold h old new sets filters entered task = record {
+  own = entered.own;
+  few = omega (arith, entered.total);
+  caught_up = inr entered.caught_up;
+  task = task;
+}
+
+pub failed_hold : (h : ℕ) (old new : StateValue) → new.short ≡ true → new.past ≡ old.past → new.task ≡ old.task → IsHold h old new
+failed_hold h old new short past task = record {
+  own = goes_same (λ i. party i ≡ h) old.past old.past new.past (goes_nowhere (λ i. party i ≡ h) old.past) (sym past);
+  few = omega (arith, ap total_steps past);
+  caught_up = inl short;
+  task = task;
+}
+
+-- Turns.
+
+own_steps : (h n : ℕ) (past : List Item) → Own h past (steps h n past)
+own_steps h zero past = goes_nowhere (λ i. party i ≡ h) past
+own_steps h (suc n) past =
+    goes_on (λ i. party i ≡ h) (λ i. party i ≡ h) (λ i. party i ≡ h) past (steps h n past) (Step h ∷ steps h n past)
+    (own_steps h n past) (goes_once (λ i. party i ≡ h) (steps h n past) (Step h) refl) (λ i is. is) (λ i is. is)
+
+more_steps : (h n : ℕ) (past : List Item) → total_steps (steps h n past) ≡ total_steps past + n
+more_steps h zero past = omega arith
+more_steps h (suc n) past = omega (arith, more_steps h n past)
+
+more_written : (h n : ℕ) (past : List Item) → length (journaled (steps h n past)) ≡ length (journaled past) + n
+more_written h zero past = omega arith
+more_written h (suc n) past = omega (arith, more_written h n past)
+
+-- what is recorded
+pub record IsCommitted (h n : ℕ) (old new : StateValue) (before after : HartState) (told : List Event) : Type 0 where
+  pub steps : new.past ≡ steps h n old.past
+  pub some : 0 < n
+  pub most : n ≤ 512
+  pub hart : after ≡ hart_of new.task.machine new.task.mode new.past h
+  pub events : told ≡ (steps_of old.task.machine h n before (world old.task.machine old.task.mode old.past).shared).events
+  pub inside : (j : ℕ) → j < n
+      → GoesInside j (steps_of old.task.machine h j before (world old.task.machine old.task.mode old.past).shared).hart
+  pub legal : Legal (task_run new.task) new.past
+  pub state_log : IsStateLog (task_run new.task) new.past
+  pub task : new.task ≡ old.task
+  pub awake : after.parked ≡ false
+  pub leaves : after.ending ≡ None → after.since ≡ 0
+  pub within_limit : after.ending ≡ None → after.steps < old.task.machine.limit
+
+pub turn_begins : (h : ℕ) (seen : List Item) (s : StateValue) (sets : List Attachment) (filters : List (ℕ × SetSpec))
+    → HasEntered h seen s sets filters → InOrder s.task (stored_of s) → MayTurn (task_run s.task) h 0 s.past
+turn_begins h seen s sets filters entered order =
+    turns_begin (task_run s.task) h s.past order.legal entered.there entered.owes_none entered.asks_nothing
+    (ap (λ (o : Option Item). not (is_some o)) entered.caught_up)
+
+pub turned : (h n : ℕ) (seen : List Item) (old new : StateValue) (sets : List Attachment) (filters : List (ℕ × SetSpec)) (noted : List Ask)
+    (before after : HartState) (told : List Event) (block : Stretch)
+    → HasEntered h seen old sets filters → IsCommitted h n old new before after told
+    → before ≡ hart_of old.task.machine old.task.mode old.past h → IsBlock old.task.machine.image before.pc block
+    → before.since ≡ 0 → before.pc % 4 ≡ 0 → before.pc < 2 ^ 64
+    → IsHeld Turned h seen new after sets filters noted told block
+turned h n seen old new sets filters noted before after told block entered is same at since aligned small = (
+  record {
+    before = old.past;
+    n = n;
+    turn = is.steps;
+    some = is.some;
+    legal = is.legal;
+    state_log = is.state_log;
+    there = ap (λ (t : Task). is_there (task_run t) h old.past) is.task ∙ entered.there;
+    quiet = ap (λ (t : Task). asks_nothing (task_run t) h old.past) is.task ∙ entered.asks_nothing;
+    attached = entered.sets ∙ ap (λ (t : Task). sets_for is_with_hart (task_run t) h old.past) (sym is.task);
+    specs = entered.specs ∙ ap (λ (t : Task). specs_for (task_run t) h old.past) (sym is.task);
+    events = is.events
+        ∙ ap (λ (x : HartState). (steps_of old.task.machine h n x (world old.task.machine old.task.mode old.past).shared).events) same
+        ∙ ap (λ (t : Task). (steps_of t.machine h n (hart_of t.machine t.mode old.past h) (world t.machine t.mode old.past).shared).events)
+        (sym is.task);
+    is = is.hart;
+    awake = is.awake;
+    begins = is.leaves;
+    below = λ goes. subst (λ (t : Task). after.steps < t.machine.limit) (sym is.task) (is.within_limit goes);
+  },
+  omega (
+    arith,
+    never_less (λ i. party i ≡ h) seen old.past entered.own,
+    more_written h n old.past,
+    ap (λ (past : List Item). length (journaled past)) is.steps,
+    is.some,
+  ),
+  subst (λ (es : List Event). All (λ e. LiesIn block e.what) es) (sym is.events)
+      (events_lie_in_blocks old.task.machine h n before (world old.task.machine old.task.mode old.past).shared block at since aligned small
+      is.inside),
+)
+
+pub turned_hold : (h n : ℕ) (first old new : StateValue) (sets : List Attachment) (filters : List (ℕ × SetSpec))
+    (before after : HartState) (told : List Event)
+    → HasEntered h first.past old sets filters → IsCommitted h n old new before after told → old.task ≡ first.task
+    → first.task.plan.script ≡ [] → IsHold h first new
+turned_hold h n first old new sets filters before after told entered is task plain = record {
+  own = goes_on (λ i. party i ≡ h) (λ i. party i ≡ h) (λ i. party i ≡ h) first.past old.past new.past entered.own
+      (goes_same (λ i. party i ≡ h) old.past (steps h n old.past) new.past (own_steps h n old.past) (sym is.steps)) (λ i own. own) (λ i own. own);
+  few = omega (arith, entered.total, more_steps h n old.past, ap total_steps is.steps, is.most);
+  caught_up = inr (ap (λ (t : Task). wanted (task_run t) new.past) is.task
+      ∙ subst (λ (past : List Item). wanted (task_run old.task) past ≡ None) (sym is.steps)
+      (still_wants_none (task_run old.task) old.past (steps h n old.past) (ap (λ (t : Task). t.plan.script) task ∙ plain)
+      (same_starts h n old.past) entered.caught_up));
+  task = is.task ∙ task;
+}
+
+-- A hart that makes no Turn.
+
+none_ending : (o : Option Ending) → IsSome o → o ≡ None → ⊥
+none_ending o some none = absurd (false≢true (ap is_some (sym none) ∙ some))
+
+pub same_hart : (t : Task) (past : List Item) (h k : ℕ) (hart other : HartState) → k ≡ h → other ≡ hart
+    → hart ≡ hart_of t.machine t.mode past h → other ≡ hart_of t.machine t.mode past k
+same_hart t past h k hart other number same is = same ∙ is ∙ ap (hart_of t.machine t.mode past) (sym number)
+
+-- the block is where the hart is
+pub starts_so : (t u : Task) (hart other : HartState) (block : Stretch) → u ≡ t → other ≡ hart → IsBlock t.machine.image hart.pc block
+    → IsBlock u.machine.image other.pc block
+starts_so t u hart other block task same is =
+    subst (λ (x : Task). IsBlock x.machine.image other.pc block) (sym task)
+    (subst (λ (x : HartState). IsBlock t.machine.image x.pc block) (sym same) is)
+
+-- one that has ended
+pub ended_seated : (h : ℕ) (first new : StateValue) (sets : List Attachment) (filters : List (ℕ × SetSpec)) (hart : HartState)
+    (noted : List Ask) → HasEntered h first.past new sets filters → new.task ≡ first.task
+    → hart ≡ hart_of first.task.machine first.task.mode first.past h → IsSome hart.ending → noted ≡ replicate 8 Stay
+    → IsSeated new.task h new.past hart sets filters noted
+ended_seated h first new sets filters hart noted entered task is ended none =
+    seated h first.past new sets filters hart noted entered (entered_hart first.task h first.past new sets filters hart entered task is)
+    (λ goes. absurd (none_ending hart.ending ended goes)) (λ goes. absurd (none_ending hart.ending ended goes)) none
+
+pub ended_leaves : (h : ℕ) (first new : StateValue) (sets : List Attachment) (filters : List (ℕ × SetSpec)) (hart : HartState)
+    → HasEntered h first.past new sets filters → InOrder new.task (stored_of new) → new.task ≡ first.task
+    → hart ≡ hart_of first.task.machine first.task.mode first.past h → IsSome hart.ending → MayLeave h new hart sets
+ended_leaves h first new sets filters hart entered order task is ended =
+    let here = entered_hart first.task h first.past new sets filters hart entered task is in
+    let run = task_run new.task in
+    leaves_so h first.past new sets filters hart entered order here
+    (finished_ended (run.guest.has_ended new.past h) (run.guest.is_over new.past) (run.guest.is_parked new.past h)
+    (list_all (is_idle run new.past) (range_with_len 0 run.harts)) (ap (λ (x : HartState). is_some x.ending) (sym here) ∙ ended))
+
+-- one that runs, where the group has ended
+pub running_seated : (h : ℕ) (first new : StateValue) (sets : List Attachment) (filters : List (ℕ × SetSpec)) (hart : HartState)
+    (noted : List Ask) → HasEntered h first.past new sets filters → new.task ≡ first.task
+    → hart ≡ hart_of first.task.machine first.task.mode first.past h → hart.since ≡ 0 → hart.steps < first.task.machine.limit
+    → noted ≡ replicate 8 Stay → IsSeated new.task h new.past hart sets filters noted
+running_seated h first new sets filters hart noted entered task is begins below none =
+    seated h first.past new sets filters hart noted entered (entered_hart first.task h first.past new sets filters hart entered task is)
+    (λ goes. begins) (λ goes. subst (λ (t : Task). hart.steps < t.machine.limit) (sym task) below) none
+
+-- the group of a state in order has ended
+group_over : (s : StateValue) (code : Option ℤ) → InOrder s.task (stored_of s) → code ≡ s.services.group → is_some code ≡ true
+    → (task_run s.task).guest.is_over s.past ≡ true
+group_over s code order is some =
+    ap (λ (x : Shared). is_some x.group) (sym order.shared) ∙ ap (λ (o : Option ℤ). is_some o) (sym is) ∙ some
+
+pub over_leaves : (h : ℕ) (first new : StateValue) (sets : List Attachment) (filters : List (ℕ × SetSpec)) (hart : HartState)
+    (code : Option ℤ) → HasEntered h first.past new sets filters → InOrder new.task (stored_of new)
+    → hart ≡ hart_of new.task.machine new.task.mode new.past h → code ≡ new.services.group → is_some code ≡ true
+    → MayLeave h new hart sets
+over_leaves h first new sets filters hart code entered order is group some =
+    let run = task_run new.task in
+    leaves_so h first.past new sets filters hart entered order is
+    (finished_over (run.guest.has_ended new.past h) (run.guest.is_over new.past) (run.guest.is_parked new.past h)
+    (list_all (is_idle run new.past) (range_with_len 0 run.harts)) (group_over new code order group some))
+
+-- A hart that was parked as the hold began.
+
+pub parked_seated : (h : ℕ) (first new : StateValue) (sets : List Attachment) (filters : List (ℕ × SetSpec)) (old hart : HartState)
+    (noted : List Ask) (woken : Bool) → HasEntered h first.past new sets filters → new.task ≡ first.task
+    → hart ≡ hart_of new.task.machine new.task.mode new.past h
+    → (woken ≡ true → (hart.parked ≡ false) × (hart.since ≡ 0) × (hart.steps < new.task.machine.limit)) → (woken ≡ false → hart ≡ old)
+    → (old.ending ≡ None → old.since ≡ 0) → (old.ending ≡ None → old.steps < first.task.machine.limit) → noted ≡ replicate 8 Stay
+    → IsSeated new.task h new.past hart sets filters noted
+parked_seated h first new sets filters old hart noted true entered task is woken asleep begins below none =
+    seated h first.past new sets filters hart noted entered is (λ goes. (woken refl).1) (λ goes. (woken refl).2) none
+parked_seated h first new sets filters old hart noted false entered task is woken asleep begins below none =
+    let same : hart ≡ old = asleep refl in
+    let Goes : HartState → Type 0 = λ x. (x.ending ≡ None → x.since ≡ 0) × (x.ending ≡ None → x.steps < new.task.machine.limit) in
+    let goes : Goes hart =
+    subst Goes (sym same) (begins, λ running. subst (λ (t : Task). old.steps < t.machine.limit) (sym task) (below running)) in
+    seated h first.past new sets filters hart noted entered is goes.0 goes.1 none
+
+pub deserted_leaves : (h : ℕ) (first new : StateValue) (sets : List Attachment) (filters : List (ℕ × SetSpec)) (hart : HartState)
+    → HasEntered h first.past new sets filters → InOrder new.task (stored_of new)
+    → hart ≡ hart_of new.task.machine new.task.mode new.past h → hart.parked ≡ true
+    → ((k : ℕ) → k < new.task.machine.harts → (hart_of new.task.machine new.task.mode new.past k).parked ≡ true
+    → is_finished (task_run new.task) k new.past ≡ true)
+    → MayLeave h new hart sets
+deserted_leaves h first new sets filters hart entered order is parked finished =
+    leaves_so h first.past new sets filters hart entered order is
+    (finished h (there_low (task_run new.task) h new.past entered.there) (ap (λ (x : HartState). x.parked) (sym is) ∙ parked))
+
+-- A hart that leaves.
+
+none_wanted : (o : Option Item) → not (is_some o) ≡ true → o ≡ None
+none_wanted None is = refl
+none_wanted (Some item) is = absurd (false≢true is)
+
+left_starts : (h : ℕ) (past : List Item) → start_orders (Left h ∷ past) ≡ start_orders past
+unfolding start_orders
+left_starts h past = refl
+
+leaves_caught_up : (run : Run) (h : ℕ) (past : List Item) → may_leave run h past ≡ true → wanted run past ≡ None
+leaves_caught_up run h past may =
+    let rest = rest_true (is_there run h past) _ may in
+    let rest' = rest_true (is_finished run h past) _ rest in
+    let rest'' = rest_true (not (owes_any run h past)) _ rest' in
+    none_wanted (wanted run past) (rest_true (asks_nothing run h past) _ rest'')
+
+pub left_caught_up : (h : ℕ) (old new : StateValue) (hart : HartState) (sets : List Attachment) → MayLeave h old hart sets
+    → old.task.plan.script ≡ [] → new.past ≡ Left h ∷ old.past → new.task ≡ old.task → IsCaughtUp new
+unfolding Legal
+left_caught_up h old new hart sets may plain past task =
+    inr (ap (λ (t : Task). wanted (task_run t) new.past) task
+    ∙ ap (λ (xs : List Item). wanted (task_run old.task) xs) past
+    ∙ still_wants_none (task_run old.task) old.past (Left h ∷ old.past) plain (left_starts h old.past)
+    (leaves_caught_up (task_run old.task) h old.past may.legal.1))
+
+pub left_hold : (h k : ℕ) (old mid new : StateValue) → IsHold h old mid → k ≡ h → new.past ≡ Left k ∷ mid.past → IsCaughtUp new
+    → new.task ≡ mid.task → IsHold h old new
+left_hold h k old mid new hold same past caught_up task = record {
+  own = goes_on (λ i. party i ≡ h) (λ i. party i ≡ h) (λ i. party i ≡ h) old.past mid.past new.past hold.own
+      (goes_same (λ i. party i ≡ h) mid.past (Left k ∷ mid.past) new.past (goes_once (λ i. party i ≡ h) mid.past (Left k) same) (sym past))
+      (λ i own. own) (λ i own. own);
+  few = omega (arith, hold.few, ap total_steps past);
+  caught_up = caught_up;
+  task = task ∙ hold.task;
+}

@@ -1,0 +1,9 @@
+use Rattle.std.proofs.Common.{ap}
+use Rattle.host_state.specs.State.{StateValue}
+use Rattle.hart_runner.proofs.Held.{left_caught_up}
+use Rattle.hart_runner.proofs.parts.leave.Goals as goal
+
+pub returns-clause-caught_up : goal.returns-clause-caught_up
+returns-clause-caught_up g c =
+    left_caught_up c.args.seat.no c.args.state.now c.leave.new.self c.args.seat.hart c.args.seat.attached c.requires.may c.requires.plain
+    c.leave.ensures.left (ap (λ (s : StateValue). s.task) c.leave.ensures.rest)

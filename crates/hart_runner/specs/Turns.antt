@@ -1,0 +1,75 @@
+-- What a runner knows between its holds, and what a turn adds to the log.
+use Rattle.std.specs.Prelude.{◌≡◌, ◌≢◌, ◌≤◌, ◌+◌, ℕ, true, false, List, [], None, IsSome, Option, MatchOption}
+use Rattle.flat_model.specs.declared.journals.Item.{Item}
+use Rattle.flat_model.specs.declared.limits.TheConstants.{BLOCK_WORDS}
+use Rattle.flat_model.specs.Log.{party, total_steps}
+use Rattle.baton_gate.specs.Logs.{GoesOn}
+use Rattle.run_rules.specs.Legal.{is_there}
+use Rattle.run_order.specs.InOrder.{Task, task_run}
+use Rattle.host_state.specs.Taking.{IsGotBy}
+use Rattle.instr_lists.specs.declared.kept_lists.KeptList.{KeptList}
+use Rattle.block_finder.specs.Block.{Stretch, IsBlock}
+use Rattle.host_state.specs.Moving.{IsPrivateTurn}
+use Rattle.hart_runner.specs.declared.going_ahead.Ahead.{Ahead}
+use Rattle.hart_runner.specs.declared.holding.Hold.{Hold}
+use Rattle.hart_runner.specs.declared.holding.Hold.TheVariants as holds
+use Rattle.hart_runner.specs.Lists.{AreLists}
+use Rattle.hart_runner.specs.declared.runners.Turned.{Turned}
+use Rattle.hart_runner.specs.declared.runners.Turned.TheVariants.{Went, Left, Waited}
+use Rattle.hart_runner.specs.declared.seats.Seat.{Seat}
+use Rattle.hart_runner.specs.Parts.{HasLeftThen}
+use Rattle.hart_runner.specs.Seats.{IsSeated, HasWritten, Own}
+
+-- what hart h's pass has seen became this: others added to the log, and then the hart, with at most a block's steps
+pub record HasGone (h : ℕ) (seen now : List Item) (What : List Item → Type 0) : Type 0 where
+  pub taken : List Item
+  pub ahead : GoesOn (λ i. party i ≢ h) seen taken
+  pub own : Own h taken now
+  pub few : total_steps now ≤ total_steps taken + BLOCK_WORDS
+  pub what : What taken
+
+-- and what the turn is called by that: an entry of the journal was added, and the hart is still there; or its last item is that it left; or
+-- it took sets and did nothing else
+abbrev pub IsTurned : Turned → Task → ℕ → List Item → List Item → Type 0
+IsTurned Went t h now taken = (is_there (task_run t) h now ≡ true) × HasWritten taken now
+IsTurned Left t h now taken = HasLeftThen h taken now
+IsTurned Waited t h now taken = (is_there (task_run t) h now ≡ true) × GoesOn (IsGotBy h) taken now
+
+module _ {W : Type 0} where
+  -- between holds: the seat of a task's hart, whose pass has seen this
+  pub record Sits (t : Task) (h : ℕ) (seen : List Item) (seat : Seat W) : Type 0 where
+    pub number : seat.no ≡ h
+    pub seated : IsSeated t seat.no seen seat.hart seat.attached seat.specs seat.asks.first
+    pub image : seat.image.value ≡ t.machine.image
+    pub limit : seat.limit ≡ t.machine.limit
+    pub kept : seat.raw.kept ≡ true
+    pub plain : t.plan.script ≡ []
+
+  -- the lists that a cache keeps are of the seat's sets
+  abbrev pub HasLists : List KeptList → Seat W → Type 0
+  HasLists kept seat = AreLists seat.image.value seat.generation seat.specs kept
+
+  -- its hart runs, is at a block, and has gone ahead in it
+  pub record IsAhead (seat : Seat W) (ahead : Ahead) (block : Stretch) : Type 0 where
+    pub awake : seat.hart.parked ≡ false
+    pub running : seat.hart.ending ≡ None
+    pub is : IsBlock seat.image.value seat.hart.pc block
+    pub ran : IsPrivateTurn seat.image.value seat.limit seat.no ahead.ran seat.hart ahead.hart seat.raw.events
+
+  -- the runner has no seat exactly once its hart has left
+  abbrev pub IsPlaced : Turned → Option (Seat W) → (Seat W → Type 0) → Type 0
+  IsPlaced Went place P = MatchOption place ⊥ P
+  IsPlaced Left place P = place ≡ None
+  IsPlaced Waited place P = MatchOption place ⊥ P
+
+  -- what a turn makes of the log that was seen and of the seat
+  pub record IsDone (turned : Turned) (t : Task) (h : ℕ) (seen now : List Item) (place : Option (Seat W)) : Type 0 where
+    pub gone : HasGone h seen now (IsTurned turned t h now)
+    pub placed : IsPlaced turned place (Sits t h now)
+
+-- a hold by what it came to
+abbrev pub turned_of : Hold → Turned
+turned_of holds.Turned = Went
+turned_of holds.GaveBack = Went
+turned_of holds.Waits = Waited
+turned_of holds.Leaves = Left

@@ -1,0 +1,138 @@
+//! The turns of a runner.
+
+ghost use Rattle.std.specs.Prelude.{◌≡◌, ◌+◌, ◌-◌, ◌^◌, ◌≤◌, ◌<◌, true, false, min, List, None, Some, IsSome, IfOk, OnOk, OnErr, MatchOption};
+ghost use Rattle.run_order.specs.InOrder.{Task};
+ghost use Rattle.baton_gate.specs.Passes.{IsPassOf, known, seen, holds, carries};
+ghost use Rattle.hart_runner.specs.Parts.{IsStillPart, IsPart};
+ghost use Rattle.hart_runner.specs.Turns.{HasGone, HasLists, IsAhead, IsDone, Sits, turned_of};
+ghost use Rattle.instr_lists.specs.declared.kept_lists.KeptList.{KeptList};
+
+use crate::going_ahead::Ahead;
+use crate::holding::Hold;
+use crate::parts::{take_running_part, take_still_part};
+use crate::runners::Turned;
+use crate::seats::Seat;
+use baton_gate::{Gate, Pass};
+use block_finder::Block;
+use flat_model::NoMemory;
+use host_state::HostState;
+use std::sync::Wait;
+use watcher_api::{Closer, Held, Watcher};
+
+/// One hold of a hart that is parked or has ended.
+fn hold_still_once<W: Watcher, C: Closer<Held<W>>, R: Wait>(
+    rt: &R,
+    gate: &Gate<Box<HostState<W, C>>>,
+    pass: &mut Pass<Box<HostState<W, C>>>,
+    place: &mut Option<Seat<W>>,
+) -> Result<Hold, NoMemory>
+    requires gate { IsPassOf gate.now pass.old }
+    requires free { holds pass.old ≡ false }
+    requires sits { (t : Task) → carries pass.old ≡ Some t
+        → MatchOption place.old ⊥ (Sits t pass.old.party (seen pass.old)) }
+    requires still { MatchOption place.old ⊥ (λ seat. seat.hart.parked ≡ false → IsSome seat.hart.ending) }
+    ensures gate { IsPassOf gate.now pass.new }
+    ensures same { known pass.new ≡ record (known pass.old) { seen = seen pass.new } }
+    ensures party { pass.new.party ≡ pass.old.party }
+    ensures takes { pass.new.takes ≡ min (pass.old.takes + 1) (2 ^ 64 - 1) }
+    ensures gone { (t : Task) → carries pass.old ≡ Some t → MatchOption place.old ⊥ (λ seat. IfOk result (λ hold.
+        HasGone seat.no (seen pass.old) (seen pass.new) (λ taken. IsStillPart hold t taken (seen pass.new) seat place.new))) }
+{
+    let mut state = gate.take(rt, pass);
+    // Each state is in order.
+    let _ = state.task();
+    let held = take_still_part(&mut state, place);
+    gate.give(rt, pass, state);
+    held
+}
+
+/// A turn by what its hold came to.
+fn turned_by(hold: Hold) -> Turned
+    ensures turned { result ≡ turned_of hold }
+{
+    match hold {
+        Hold::Turned | Hold::GaveBack => Turned::Went,
+        Hold::Waits => Turned::Waited,
+        Hold::Leaves => Turned::Left,
+    }
+}
+
+/// The turn of a hart that is parked or has ended.
+fn turn_still<W: Watcher, C: Closer<Held<W>>, R: Wait>(
+    rt: &R,
+    gate: &Gate<Box<HostState<W, C>>>,
+    pass: &mut Pass<Box<HostState<W, C>>>,
+    place: &mut Option<Seat<W>>,
+) -> Result<Turned, NoMemory>
+    requires gate { IsPassOf gate.now pass.old }
+    requires free { holds pass.old ≡ false }
+    requires sits { (t : Task) → carries pass.old ≡ Some t
+        → MatchOption place.old ⊥ (Sits t pass.old.party (seen pass.old)) }
+    requires still { MatchOption place.old ⊥ (λ seat. seat.hart.parked ≡ false → IsSome seat.hart.ending) }
+    ensures gate { IsPassOf gate.now pass.new }
+    ensures same { known pass.new ≡ record (known pass.old) { seen = seen pass.new } }
+    ensures party { pass.new.party ≡ pass.old.party }
+    ensures takes { pass.new.takes ≡ min (pass.old.takes + 1) (2 ^ 64 - 1) }
+    ensures done { (t : Task) → carries pass.old ≡ Some t
+        → IfOk result (λ turned. IsDone turned t pass.old.party (seen pass.old) (seen pass.new) place.new) }
+    ensures lists { (kept : List KeptList) → MatchOption place.old ⊥ (HasLists kept)
+        → MatchOption place.new (Unit {0}) (HasLists kept) }
+    ensures failed { OnErr result (place.new ≡ None) }
+{
+    let Ok(hold) = hold_still_once(rt, gate, pass, place) else {
+        *place = None;
+        return Err(NoMemory);
+    };
+    Ok(turned_by(hold))
+}
+
+/// A hart that found no memory between its holds: the state is short from then on, and the runner has no seat any more.
+fn give_up<W: Watcher, C: Closer<Held<W>>, R: Wait>(
+    rt: &R,
+    gate: &Gate<Box<HostState<W, C>>>,
+    pass: &mut Pass<Box<HostState<W, C>>>,
+    place: &mut Option<Seat<W>>,
+)
+    requires gate { IsPassOf gate.now pass.old }
+    requires free { holds pass.old ≡ false }
+    requires low { (t : Task) → carries pass.old ≡ Some t → pass.old.party < t.machine.harts }
+    ensures gate { IsPassOf gate.now pass.new }
+    ensures same { known pass.new ≡ record (known pass.old) { seen = seen pass.new } }
+    ensures party { pass.new.party ≡ pass.old.party }
+    ensures takes { min (pass.old.takes + 1) (2 ^ 64 - 1) ≤ pass.new.takes }
+    ensures failed { place.new ≡ None }
+{
+    let mut state = gate.take(rt, pass);
+    state.fail(pass.party());
+    gate.give(rt, pass, state);
+    *place = None;
+}
+
+/// One hold of a hart that has gone ahead in its block.
+fn hold_running_once<W: Watcher, C: Closer<Held<W>>, R: Wait>(
+    rt: &R,
+    gate: &Gate<Box<HostState<W, C>>>,
+    pass: &mut Pass<Box<HostState<W, C>>>,
+    place: &mut Option<Seat<W>>,
+    ahead: Ahead,
+    block: &Block,
+) -> Result<Hold, NoMemory>
+    requires gate { IsPassOf gate.now pass.old }
+    requires free { holds pass.old ≡ false }
+    requires sits { (t : Task) → carries pass.old ≡ Some t
+        → MatchOption place.old ⊥ (Sits t pass.old.party (seen pass.old)) }
+    requires ahead { MatchOption place.old ⊥ (λ seat. IsAhead seat ahead block.now) }
+    ensures gate { IsPassOf gate.now pass.new }
+    ensures same { known pass.new ≡ record (known pass.old) { seen = seen pass.new } }
+    ensures party { pass.new.party ≡ pass.old.party }
+    ensures takes { pass.new.takes ≡ min (pass.old.takes + 1) (2 ^ 64 - 1) }
+    ensures gone { (t : Task) → carries pass.old ≡ Some t → MatchOption place.old ⊥ (λ seat. IfOk result (λ hold.
+        HasGone seat.no (seen pass.old) (seen pass.new) (λ taken. IsPart hold t taken (seen pass.new) block.now seat place.new))) }
+{
+    let mut state = gate.take(rt, pass);
+    // Each state is in order.
+    let _ = state.task();
+    let held = take_running_part(&mut state, place, ahead, block);
+    gate.give(rt, pass, state);
+    held
+}
