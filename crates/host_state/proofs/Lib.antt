@@ -12,6 +12,7 @@ pub mod Shelved
 pub mod Departing
 pub mod GivingBack
 pub mod Starting
+pub mod Telling
 pub mod WholeTurns
 pub mod Finishing
 pub mod KeptClosers
