@@ -13,6 +13,7 @@ pub mod Departing
 pub mod GivingBack
 pub mod Deserted
 pub mod Starting
+pub mod Telling
 pub mod WholeTurns
 pub mod Finishing
 pub mod KeptClosers

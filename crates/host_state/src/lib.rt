@@ -8,6 +8,7 @@ pub use tasks::Task;
 mod arrivals;
 mod asking;
 mod attaching;
+mod closing;
 mod committing;
 mod idling;
 mod leaving;
