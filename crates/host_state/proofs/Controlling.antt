@@ -3,6 +3,7 @@ use Rattle.std.proofs.Common.{◌≡◌, ◌≤◌, ◌<◌, ◌+◌, ◌-◌, �
 use Rattle.std.proofs.Common.{refl, sym, ap, subst, arith, map, replicate}
 use Rattle.std.specs.Prelude.{is_some, ◌&&◌, nat_lt, nat_le, slice_set, Vec, vec_len}
 use Rattle.std.specs.Global.{Global}
+use Rattle.std.specs.List.Sorted.{IsNonDecreasingBy}
 use Rattle.std.proofs.lemmas.List.{map-set, length-set, length-map}
 use Rattle.std.proofs.lemmas.Bool.Decides.{nat_tests}
 use Rattle.flat_model.specs.declared.plugins.SetSpec.{SetSpec}
@@ -19,7 +20,7 @@ use Rattle.plug_registry.specs.State.{RegistryState}
 use Rattle.run_journal.specs.Journal.{JournalState}
 use Rattle.run_rules.specs.Due.{wanted}
 use Rattle.run_rules.specs.Legal.{Legal}
-use Rattle.run_order.specs.InOrder.{task_run}
+use Rattle.run_order.specs.InOrder.{Task, task_run}
 use Rattle.kept_order.specs.Ordering.{IsWithdrawal}
 use Rattle.kept_order.proofs.Orders.{withdrawals_keep_order, same_long, withdrawal_names}
 use Rattle.kept_order.proofs.Orders.{registrations_keep_order}
@@ -27,6 +28,8 @@ use Rattle.kept_order.proofs.Withdrawals.{plugins_are_few}
 use Rattle.kept_order.proofs.Gone.{as_many}
 use Rattle.plug_registry.proofs.Allowed.{may_install, may_register}
 use Rattle.watcher_api.specs.Attachment.{Attachment, opening}
+use Rattle.kept_order.proofs.Unplanned.{unplanned_orders_pass_nothing_by}
+use Rattle.host_state.specs.Ordering.{ChangesByOrder}
 use Rattle.host_state.proofs.AllowedSets.{IsAttachable, install_attachable, register_attachable}
 use Rattle.host_state.proofs.Shelved.{waiting_long}
 use Rattle.host_state.specs.State.{StateValue, IsSound, stored_of}
@@ -213,3 +216,16 @@ can_install s spec sound allowed =
       boxes = omega (arith, may.boxes, taken_by s spec sound, sound.boxes);
       closer = omega (arith, may.few, sound.closers);
     }
+
+-- Behind the order.
+
+-- the plan wants nothing, as it wanted nothing before
+pub wants_nothing : (was s new : StateValue) (party : ℕ) (order : Order) → s ≡ was
+    → IsNonDecreasingBy (λ t. t.when) s.task.plan.script → wanted (task_run was.task) was.past ≡ None
+    → new.past ≡ Ordered (Control party) order ∷ was.past → ChangesByOrder was new → wanted (task_run new.task) new.past ≡ None
+wants_nothing was s new party order is rising none items rest =
+    let risen : IsNonDecreasingBy (λ t. t.when) was.task.plan.script =
+    subst (λ (v : StateValue). IsNonDecreasingBy (λ t. t.when) v.task.plan.script) is rising in
+    let task : new.task ≡ was.task = ap (λ (v : StateValue). v.task) rest in
+    ap (λ (t : Task). wanted (task_run t) new.past) task ∙ ap (wanted (task_run was.task)) items
+    ∙ unplanned_orders_pass_nothing_by (task_run was.task) (Control party) order was.past risen tt none
