@@ -49,15 +49,17 @@ may_control was s party order is none outside allowed =
 pub may_stand : (s : StateValue) (party : ℕ) (order : Order) → IsSound s → MayControl s party order
     → Legal (task_run s.task) (Ordered (Control party) order ∷ s.past)
 unfolding Legal
-may_stand s party order sound may =
-    (sound.order.legal, record {
-      allowed = ap (λ (r : Plugins). not (is_some (refusal r order))) (sym sound.order.plugins)
-          ∙ ap (λ o. not (is_some o)) may.allowed;
-      given = (
-        ap (λ o. not (is_some o)) may.none,
-        ap (λ (r : Plugins). is_hart r party) (sym sound.order.plugins) ∙ may.outside,
-      );
-    })
+may_stand s party order sound may = (
+  sound.order.legal,
+  record {
+    allowed = ap (λ (r : Plugins). not (is_some (refusal r order))) (sym sound.order.plugins)
+        ∙ ap (λ o. not (is_some o)) may.allowed;
+    given = (
+      ap (λ o. not (is_some o)) may.none,
+      ap (λ (r : Plugins). is_hart r party) (sym sound.order.plugins) ∙ may.outside,
+    );
+  },
+)
 
 same_boxes : (order : Order) (r : Plugins) → IsWithdrawal order → (after_order order r).boxes ≡ r.boxes
 same_boxes (Install spec) r is = absurd is
