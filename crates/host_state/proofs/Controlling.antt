@@ -1,5 +1,5 @@
 -- The state as a controller's order stands in it.
-use Rattle.std.proofs.Common.{◌≡◌, ◌≤◌, ◌<◌, ◌+◌, ◌-◌, ◌*◌, ◌∷◌, ◌∙◌, ℕ, Bool, true, false, not, List, Option, Some, None, length}
+use Rattle.std.proofs.Common.{◌≡◌, ◌≤◌, ◌<◌, ◌+◌, ◌-◌, ◌*◌, ◌∷◌, ◌∙◌, ℕ, true, false, not, List, Option, Some, None, length}
 use Rattle.std.proofs.Common.{refl, sym, ap, subst, arith, map, replicate}
 use Rattle.std.specs.Prelude.{is_some, ◌&&◌, nat_lt, nat_le, slice_set, Vec, vec_len}
 use Rattle.std.specs.Global.{Global}
@@ -117,9 +117,12 @@ taken_by : (s : StateValue) (spec : SetSpec) → IsSound s
 taken_by s spec sound =
     ap (λ (n : ℕ). n * calling spec.subs) (ap (λ (r : Plugins). r.harts) sound.order.plugins ∙ as_many (task_run s.task) s.past)
 
-pub can_register : (s : StateValue) (plugin : ℕ) (spec : SetSpec) → IsSound s → refusal s.registry.table (Register plugin spec) ≡ None
-    → CanRegister s plugin spec
-can_register s plugin spec sound allowed =
+-- by what the registry of the whole state allows
+pub can_register : (was s : StateValue) (plugin : ℕ) (spec : SetSpec) → s ≡ was → IsSound s
+    → refusal was.registry.table (Register plugin spec) ≡ None → CanRegister s plugin spec
+can_register was s plugin spec is sound free =
+    let allowed : refusal s.registry.table (Register plugin spec) ≡ None =
+    ap (λ (v : StateValue). refusal v.registry.table (Register plugin spec)) is ∙ free in
     let may = may_register s.registry.table plugin spec allowed in
     let number = installed_within (length s.registry.table.plugins) plugin may.installed in
     let long : length s.waiting ≡ length s.registry.table.plugins =
@@ -209,8 +212,11 @@ pub record CanInstall (s : StateValue) (spec : SetSpec) : Type 0 where
   pub boxes : s.task.machine.harts * calling spec.subs ≤ s.boxes
   pub closer : 0 < s.spare_closers
 
-pub can_install : (s : StateValue) (spec : SetSpec) → IsSound s → refusal s.registry.table (Install spec) ≡ None → CanInstall s spec
-can_install s spec sound allowed =
+pub can_install : (was s : StateValue) (spec : SetSpec) → s ≡ was → IsSound s → refusal was.registry.table (Install spec) ≡ None
+    → CanInstall s spec
+can_install was s spec is sound free =
+    let allowed : refusal s.registry.table (Install spec) ≡ None =
+    ap (λ (v : StateValue). refusal v.registry.table (Install spec)) is ∙ free in
     let may = may_install s.registry.table spec allowed in
     record {
       number = omega (arith, may.few);

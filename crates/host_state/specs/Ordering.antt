@@ -1,5 +1,5 @@
 -- Orders of controllers.
-use Rattle.std.specs.Prelude.{◌≡◌, ℕ, Option, Some}
+use Rattle.std.specs.Prelude.{◌≡◌, Some}
 use Rattle.flat_model.specs.declared.journals.Order.{Order}
 use Rattle.flat_model.specs.declared.orders.OrderRefusal.{OrderRefusal}
 use Rattle.flat_model.specs.declared.refusals.Refused.{Refused}

@@ -1,4 +1,4 @@
-use Rattle.std.proofs.Common.{◌≡◌, ◌∷◌, ◌∙◌, ap}
+use Rattle.std.proofs.Common.{◌∷◌, ◌∙◌, ap}
 use Rattle.flat_model.specs.declared.journals.Item.TheVariants.{Ordered}
 use Rattle.flat_model.specs.declared.journals.Origin.TheVariants.{Control}
 use Rattle.flat_model.specs.Log.{log}
