@@ -155,7 +155,8 @@ pub registered_sound : (s : StateValue) (party plugin : ℕ) (spec : SetSpec) (p
       boxes = boxes;
       spare_closers = spare;
     })
-registered_sound s party plugin spec past journal registry waiting arriving boxes spare sound may items entries table waits arrives left kept_closers =
+registered_sound s party plugin spec past journal registry waiting arriving boxes spare sound may items entries table waits arrives left
+    same_closers =
     let now : StateValue = record s {
       past = past;
       journal = journal;
@@ -189,7 +190,7 @@ registered_sound s party plugin spec past journal registry waiting arriving boxe
       places = sound.places;
       starts = sound.starts;
       boxes = omega (arith, fewer, taken_by s spec sound, left, sound.boxes);
-      closers = omega (arith, long, kept_closers, sound.closers);
+      closers = omega (arith, long, same_closers, sound.closers);
       failed = sound.failed;
     }
 

@@ -61,9 +61,9 @@ invariant_of-self-2 g c =
     ∙ ap (λ (es : List Entry). Ordered (Control c.args.party) order ∷ log es) c.room_for_order.ensures.entries)
     (c.record_order-self-inside.ensures.table ∙ ap (λ (o : Order). after_order o c.room_for_order.new.registry.table) same
     ∙ ap (λ (r : Plugins). after_order order r) c.room_for_order.ensures.table)
-    (row_set _ c.self.inside.waiting.items _ (c.from.result - 1) (plugin - 1) c.arrivals_in-row.result _ refl (c.arrivals_in-row.ensures.sets
-    ∙ ap (λ (n : ℕ). replicate n (Some (opening plugin spec))) harts) place)
-    (row_set _ c.self.inside.waiting.items _ (c.from.result - 1) (plugin - 1) c.arrivals_in-row.result _ refl (c.arrivals_in-row.ensures.specs
-    ∙ ap (λ (n : ℕ). replicate n (Some spec)) harts) place)
+    (row_set _ c.self.inside.waiting.items _ (c.from.result - 1) (plugin - 1) c.arrivals_in-row.result _ refl
+    (c.arrivals_in-row.ensures.sets ∙ ap (λ (n : ℕ). replicate n (Some (opening plugin spec))) harts) place)
+    (row_set _ c.self.inside.waiting.items _ (c.from.result - 1) (plugin - 1) c.arrivals_in-row.result _ refl
+    (c.arrivals_in-row.ensures.specs ∙ ap (λ (n : ℕ). replicate n (Some spec)) harts) place)
     (omega (arith, c.arrivals_in-row.ensures.left, ap (λ (n : ℕ). n * calling spec.subs) harts))
     (ap (λ v. vec_len v) c.arrivals_in-row.ensures.closers)
