@@ -1,8 +1,9 @@
 -- The state as a controller's order stands in it.
-use Rattle.std.proofs.Common.{◌≡◌, ◌≤◌, ◌<◌, ◌+◌, ◌-◌, ◌*◌, ◌∷◌, ◌∙◌, ℕ, Bool, true, false, not, List, Option, Some, None, length}
+use Rattle.std.proofs.Common.{◌≡◌, ◌≤◌, ◌<◌, ◌+◌, ◌-◌, ◌*◌, ◌∷◌, ◌∙◌, ℕ, true, false, not, List, Option, Some, None, length}
 use Rattle.std.proofs.Common.{refl, sym, ap, subst, arith, map, replicate}
 use Rattle.std.specs.Prelude.{is_some, ◌&&◌, nat_lt, nat_le, slice_set, Vec, vec_len}
 use Rattle.std.specs.Global.{Global}
+use Rattle.std.specs.List.Sorted.{IsNonDecreasingBy}
 use Rattle.std.proofs.lemmas.List.{map-set, length-set, length-map}
 use Rattle.std.proofs.lemmas.Bool.Decides.{nat_tests}
 use Rattle.flat_model.specs.declared.plugins.SetSpec.{SetSpec}
@@ -19,7 +20,7 @@ use Rattle.plug_registry.specs.State.{RegistryState}
 use Rattle.run_journal.specs.Journal.{JournalState}
 use Rattle.run_rules.specs.Due.{wanted}
 use Rattle.run_rules.specs.Legal.{Legal}
-use Rattle.run_order.specs.InOrder.{task_run}
+use Rattle.run_order.specs.InOrder.{Task, task_run}
 use Rattle.kept_order.specs.Ordering.{IsWithdrawal}
 use Rattle.kept_order.proofs.Orders.{withdrawals_keep_order, same_long, withdrawal_names}
 use Rattle.kept_order.proofs.Orders.{registrations_keep_order}
@@ -27,6 +28,8 @@ use Rattle.kept_order.proofs.Withdrawals.{plugins_are_few}
 use Rattle.kept_order.proofs.Gone.{as_many}
 use Rattle.plug_registry.proofs.Allowed.{may_install, may_register}
 use Rattle.watcher_api.specs.Attachment.{Attachment, opening}
+use Rattle.kept_order.proofs.Unplanned.{unplanned_orders_pass_nothing_by}
+use Rattle.host_state.specs.Ordering.{ChangesByOrder}
 use Rattle.host_state.proofs.AllowedSets.{IsAttachable, install_attachable, register_attachable}
 use Rattle.host_state.proofs.Shelved.{waiting_long}
 use Rattle.host_state.specs.State.{StateValue, IsSound, stored_of}
@@ -46,15 +49,17 @@ may_control was s party order is none outside allowed =
 pub may_stand : (s : StateValue) (party : ℕ) (order : Order) → IsSound s → MayControl s party order
     → Legal (task_run s.task) (Ordered (Control party) order ∷ s.past)
 unfolding Legal
-may_stand s party order sound may =
-    (sound.order.legal, record {
-      allowed = ap (λ (r : Plugins). not (is_some (refusal r order))) (sym sound.order.plugins)
-          ∙ ap (λ o. not (is_some o)) may.allowed;
-      given = (
-        ap (λ o. not (is_some o)) may.none,
-        ap (λ (r : Plugins). is_hart r party) (sym sound.order.plugins) ∙ may.outside,
-      );
-    })
+may_stand s party order sound may = (
+  sound.order.legal,
+  record {
+    allowed = ap (λ (r : Plugins). not (is_some (refusal r order))) (sym sound.order.plugins)
+        ∙ ap (λ o. not (is_some o)) may.allowed;
+    given = (
+      ap (λ o. not (is_some o)) may.none,
+      ap (λ (r : Plugins). is_hart r party) (sym sound.order.plugins) ∙ may.outside,
+    );
+  },
+)
 
 same_boxes : (order : Order) (r : Plugins) → IsWithdrawal order → (after_order order r).boxes ≡ r.boxes
 same_boxes (Install spec) r is = absurd is
@@ -112,9 +117,12 @@ taken_by : (s : StateValue) (spec : SetSpec) → IsSound s
 taken_by s spec sound =
     ap (λ (n : ℕ). n * calling spec.subs) (ap (λ (r : Plugins). r.harts) sound.order.plugins ∙ as_many (task_run s.task) s.past)
 
-pub can_register : (s : StateValue) (plugin : ℕ) (spec : SetSpec) → IsSound s → refusal s.registry.table (Register plugin spec) ≡ None
-    → CanRegister s plugin spec
-can_register s plugin spec sound allowed =
+-- by what the registry of the whole state allows
+pub can_register : (was s : StateValue) (plugin : ℕ) (spec : SetSpec) → s ≡ was → IsSound s
+    → refusal was.registry.table (Register plugin spec) ≡ None → CanRegister s plugin spec
+can_register was s plugin spec is sound free =
+    let allowed : refusal s.registry.table (Register plugin spec) ≡ None =
+    ap (λ (v : StateValue). refusal v.registry.table (Register plugin spec)) is ∙ free in
     let may = may_register s.registry.table plugin spec allowed in
     let number = installed_within (length s.registry.table.plugins) plugin may.installed in
     let long : length s.waiting ≡ length s.registry.table.plugins =
@@ -147,7 +155,8 @@ pub registered_sound : (s : StateValue) (party plugin : ℕ) (spec : SetSpec) (p
       boxes = boxes;
       spare_closers = spare;
     })
-registered_sound s party plugin spec past journal registry waiting arriving boxes spare sound may items entries table waits arrives left kept_closers =
+registered_sound s party plugin spec past journal registry waiting arriving boxes spare sound may items entries table waits arrives left
+    same_closers =
     let now : StateValue = record s {
       past = past;
       journal = journal;
@@ -181,7 +190,7 @@ registered_sound s party plugin spec past journal registry waiting arriving boxe
       places = sound.places;
       starts = sound.starts;
       boxes = omega (arith, fewer, taken_by s spec sound, left, sound.boxes);
-      closers = omega (arith, long, kept_closers, sound.closers);
+      closers = omega (arith, long, same_closers, sound.closers);
       failed = sound.failed;
     }
 
@@ -204,8 +213,11 @@ pub record CanInstall (s : StateValue) (spec : SetSpec) : Type 0 where
   pub boxes : s.task.machine.harts * calling spec.subs ≤ s.boxes
   pub closer : 0 < s.spare_closers
 
-pub can_install : (s : StateValue) (spec : SetSpec) → IsSound s → refusal s.registry.table (Install spec) ≡ None → CanInstall s spec
-can_install s spec sound allowed =
+pub can_install : (was s : StateValue) (spec : SetSpec) → s ≡ was → IsSound s → refusal was.registry.table (Install spec) ≡ None
+    → CanInstall s spec
+can_install was s spec is sound free =
+    let allowed : refusal s.registry.table (Install spec) ≡ None =
+    ap (λ (v : StateValue). refusal v.registry.table (Install spec)) is ∙ free in
     let may = may_install s.registry.table spec allowed in
     record {
       number = omega (arith, may.few);
@@ -213,3 +225,16 @@ can_install s spec sound allowed =
       boxes = omega (arith, may.boxes, taken_by s spec sound, sound.boxes);
       closer = omega (arith, may.few, sound.closers);
     }
+
+-- Behind the order.
+
+-- the plan wants nothing, as it wanted nothing before
+pub wants_nothing : (was s new : StateValue) (party : ℕ) (order : Order) → s ≡ was
+    → IsNonDecreasingBy (λ t. t.when) s.task.plan.script → wanted (task_run was.task) was.past ≡ None
+    → new.past ≡ Ordered (Control party) order ∷ was.past → ChangesByOrder was new → wanted (task_run new.task) new.past ≡ None
+wants_nothing was s new party order is rising none items rest =
+    let risen : IsNonDecreasingBy (λ t. t.when) was.task.plan.script =
+    subst (λ (v : StateValue). IsNonDecreasingBy (λ t. t.when) v.task.plan.script) is rising in
+    let task : new.task ≡ was.task = ap (λ (v : StateValue). v.task) rest in
+    ap (λ (t : Task). wanted (task_run t) new.past) task ∙ ap (wanted (task_run was.task)) items
+    ∙ unplanned_orders_pass_nothing_by (task_run was.task) (Control party) order was.past risen tt none

@@ -1,5 +1,5 @@
 -- Orders of controllers.
-use Rattle.std.specs.Prelude.{◌≡◌, ℕ, Option, Some}
+use Rattle.std.specs.Prelude.{◌≡◌, Some}
 use Rattle.flat_model.specs.declared.journals.Order.{Order}
 use Rattle.flat_model.specs.declared.orders.OrderRefusal.{OrderRefusal}
 use Rattle.flat_model.specs.declared.refusals.Refused.{Refused}
@@ -22,3 +22,17 @@ IsOfRegistry order old new NoMemory = Unit {0}
 abbrev pub IsWithoutMemory : StateValue → StateValue → Refused OrderRefusal → Type 0
 IsWithoutMemory old new (Because why) = Unit {0}
 IsWithoutMemory old new NoMemory = IsAsBefore old new
+
+-- what an order may change
+abbrev pub ChangesByOrder : StateValue → StateValue → Type 0
+ChangesByOrder old new = new ≡ record old {
+  past = new.past;
+  journal = new.journal;
+  registry = new.registry;
+  waiting = new.waiting;
+  arriving = new.arriving;
+  parked = new.parked;
+  closers = new.closers;
+  boxes = new.boxes;
+  spare_closers = new.spare_closers;
+}

@@ -1,6 +1,6 @@
 //! Orders of controllers.
 
-ghost use Rattle.std.specs.Prelude.{◌≡◌, ◌∷◌, ◌<◌, None, false, vec_len, vec_capacity, OnOk, OnErr};
+ghost use Rattle.std.specs.Prelude.{◌≡◌, ◌∷◌, ◌<◌, None, false, vec_len, vec_capacity, IfErr, OnOk, OnErr};
 ghost use Rattle.flat_model.specs.declared.journals.Item.TheVariants.{Ordered};
 ghost use Rattle.flat_model.specs.declared.journals.Origin.TheVariants.{Control};
 ghost use Rattle.flat_model.specs.declared.journals.Order.TheVariants.{Install, Register};
@@ -8,13 +8,14 @@ ghost use Rattle.flat_model.specs.Registry.{refusal, is_hart};
 ghost use Rattle.run_rules.specs.Due.{wanted};
 ghost use Rattle.run_order.specs.InOrder.{task_run};
 ghost use Rattle.kept_order.specs.Ordering.{IsWithdrawal};
-ghost use Rattle.host_state.specs.Ordering.{IsAsBefore};
+ghost use Rattle.host_state.specs.Ordering.{IsAsBefore, IsOfRegistry, IsWithoutMemory, ChangesByOrder};
 
 use crate::arrivals::{arrivals_in, room_for_row};
 use crate::opening::{empty_row, spare_closer};
 use crate::recording::{record_order, room_for_order};
 use crate::states::HostState;
-use flat_model::{NoMemory, Order, Origin, SetSpec};
+use flat_model::{NoMemory, Order, Origin, Refused, SetSpec};
+use plug_registry::OrderRefusal;
 use std::alloc::Global;
 use watcher_api::{Closer, Held, Watcher};
 
@@ -143,6 +144,53 @@ impl<W: Watcher, C: Closer<Held<W>>> HostState<W, C> {
             order,
             Order::Install { spec },
         );
+        Ok(())
+    }
+
+    /// Carries out an order of a controller that the registry allows.
+    fn order_by(&mut self, alloc: Global, party: u8, order: Order) -> Result<(), NoMemory>
+        requires caught_up { wanted (task_run self.old.task) self.old.past ≡ None }
+        requires controller { is_hart self.old.registry.table party ≡ false }
+        requires allowed { refusal self.old.registry.table order ≡ None }
+        ensures ordered { OnOk result (self.new.past ≡ Ordered (Control party) order ∷ self.old.past) }
+        ensures rest { ChangesByOrder self.old self.new }
+        ensures unchanged { OnErr result (IsAsBefore self.old self.new) }
+    {
+        match order {
+            Order::Install { spec } => self.install_by(alloc, party, spec),
+            Order::Register { plugin, spec } => self.register_by(alloc, party, plugin, spec),
+            Order::Reset { plugin } => self.withdraw_by(alloc, party, Order::Reset { plugin }),
+            Order::Uninstall { plugin } => {
+                self.withdraw_by(alloc, party, Order::Uninstall { plugin })
+            }
+        }
+    }
+
+    /// Carries out an order of a controller. A refusal is that of the registry, and changes nothing; want of memory changes
+    /// nothing but room.
+    pub fn order(
+        &mut self,
+        alloc: Global,
+        party: u8,
+        order: Order,
+    ) -> Result<(), Refused<OrderRefusal>>
+        requires open { self.old.short ≡ false }
+        requires caught_up { wanted (task_run self.old.task) self.old.past ≡ None }
+        requires controller { is_hart self.old.registry.table party ≡ false }
+        ensures ordered { OnOk result ((self.new.past ≡ Ordered (Control party) order ∷ self.old.past)
+            × (refusal self.old.registry.table order ≡ None)) }
+        ensures refused { IfErr result (IsOfRegistry order self.old self.new) }
+        ensures unchanged { IfErr result (IsWithoutMemory self.old self.new) }
+        ensures caught_up { wanted (task_run self.new.task) self.new.past ≡ None }
+        ensures task { self.new.task ≡ self.old.task }
+        ensures rest { ChangesByOrder self.old self.new }
+    {
+        // The moments of the plan's lines never fall, so none is due behind an order.
+        self.task.script();
+        if let Err(why) = self.registry.check(&order) {
+            return Err(Refused::Because(why));
+        }
+        self.order_by(alloc, party, order)?;
         Ok(())
     }
 }

@@ -1,4 +1,4 @@
-use Rattle.std.proofs.Common.{◌≡◌, ◌∙◌, All, Some, ap, sym, subst}
+use Rattle.std.proofs.Common.{◌≡◌, subst}
 use Rattle.std.specs.Prelude.{IfSome}
 use Rattle.std.proofs.lemmas.List.Elements.{All-pop}
 use Rattle.flat_model.specs.declared.plugins.SetSpec.{SetSpec}
@@ -7,7 +7,7 @@ use Rattle.host_state.specs.declared.arrivals.ArrivalRoom.{ArrivalRoom}
 use Rattle.host_state.proofs.arrivals.arrival_in.Goals as goal
 
 pub seated-requires-clause-room : goal.seated-requires-clause-room
-seated-requires-clause-room g c = 
+seated-requires-clause-room g c =
     let both = All-pop {X = ArrivalRoom g.row.W.Denot g.W.Watcher} (λ place. place.spec ≡ c.args.spec.now) c.args.places.now.items
     c.pop.new.self.items c.pop.result c.pop.ensures.items c.requires.specs in
     let it : c.unwrap-place.result.spec ≡ c.args.spec.now =

@@ -1,4 +1,4 @@
-use Rattle.std.proofs.Common.{◌≡◌, ◌∙◌, All, arith}
+use Rattle.std.proofs.Common.{◌≡◌, arith}
 use Rattle.std.proofs.lemmas.List.Elements.{All-push, All-same}
 use Rattle.host_state.specs.declared.arrivals.ArrivalRoom.{ArrivalRoom}
 use Rattle.host_state.proofs.arrivals.room_for_row.Goals as goal

@@ -1,4 +1,4 @@
-use Rattle.std.proofs.Common.{◌≡◌, ◌∷◌, ◌++◌, [], ◌∙◌, ◌+◌, ◌*◌, ◌<◌, ◌≤◌, ℕ, List, Option, Some, None, replicate, vec_len, length, refl, ap, arith}
+use Rattle.std.proofs.Common.{◌≡◌, ◌∷◌, ◌++◌, [], ◌∙◌, ◌+◌, ◌*◌, ℕ, List, Option, Some, None, replicate, vec_len, refl, ap, arith}
 use Rattle.flat_model.specs.declared.plugins.SetSpec.{SetSpec}
 use Rattle.flat_model.specs.declared.journals.Entry.{Entry}
 use Rattle.flat_model.specs.declared.journals.Item.TheVariants.{Ordered}
@@ -15,36 +15,30 @@ use Rattle.host_state.proofs.states.HostState.install_by.Goals as goal
 
 pub overflow_add-number : goal.overflow_add-number
 overflow_add-number g c =
-    let can = can_install _ c.args.spec c.self.invariant (may_control c.args.self.now _ c.args.party (Install c.args.spec) c.self.view_is
-    c.requires.caught_up c.requires.controller c.requires.allowed).allowed in
+    let can = can_install c.args.self.now _ c.args.spec c.self.view_is c.self.invariant c.requires.allowed in
     omega (arith, can.number, c.count-number.ensures)
 
 pub arrivals_in-requires-clause-most : goal.arrivals_in-requires-clause-most
 arrivals_in-requires-clause-most g c =
-    let can = can_install _ c.args.spec c.self.invariant (may_control c.args.self.now _ c.args.party (Install c.args.spec) c.self.view_is
-    c.requires.caught_up c.requires.controller c.requires.allowed).allowed in
+    let can = can_install c.args.self.now _ c.args.spec c.self.view_is c.self.invariant c.requires.allowed in
     omega (arith, can.number, c.count-number.ensures)
 
 pub arrivals_in-requires-clause-subs : goal.arrivals_in-requires-clause-subs
 arrivals_in-requires-clause-subs g c =
-    (can_install _ c.args.spec c.self.invariant (may_control c.args.self.now _ c.args.party (Install c.args.spec) c.self.view_is
-    c.requires.caught_up c.requires.controller c.requires.allowed).allowed).attachable.subs
+    (can_install c.args.self.now _ c.args.spec c.self.view_is c.self.invariant c.requires.allowed).attachable.subs
 
 pub arrivals_in-requires-clause-entries : goal.arrivals_in-requires-clause-entries
 arrivals_in-requires-clause-entries g c =
-    (can_install _ c.args.spec c.self.invariant (may_control c.args.self.now _ c.args.party (Install c.args.spec) c.self.view_is
-    c.requires.caught_up c.requires.controller c.requires.allowed).allowed).attachable.entries
+    (can_install c.args.self.now _ c.args.spec c.self.view_is c.self.invariant c.requires.allowed).attachable.entries
 
 pub arrivals_in-requires-clause-boxes : goal.arrivals_in-requires-clause-boxes
 arrivals_in-requires-clause-boxes g c =
-    let can = can_install _ c.args.spec c.self.invariant (may_control c.args.self.now _ c.args.party (Install c.args.spec) c.self.view_is
-    c.requires.caught_up c.requires.controller c.requires.allowed).allowed in
+    let can = can_install c.args.self.now _ c.args.spec c.self.view_is c.self.invariant c.requires.allowed in
     omega (arith, can.boxes, ap (λ (n : ℕ). n * calling c.args.spec.subs) c.harts-harts.ensures.harts)
 
 pub spare_closer-requires : goal.spare_closer-requires
 spare_closer-requires g c =
-    let can = can_install _ c.args.spec c.self.invariant (may_control c.args.self.now _ c.args.party (Install c.args.spec) c.self.view_is
-    c.requires.caught_up c.requires.controller c.requires.allowed).allowed in
+    let can = can_install c.args.self.now _ c.args.spec c.self.view_is c.self.invariant c.requires.allowed in
     record { enough = omega (arith, can.closer, ap (λ v. vec_len v) c.arrivals_in.ensures.closers) }
 
 pub invariant_of-self-2 : goal.invariant_of-self-2

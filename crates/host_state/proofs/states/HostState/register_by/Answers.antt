@@ -1,4 +1,4 @@
-use Rattle.std.proofs.Common.{◌≡◌, ◌∷◌, ◌∙◌, ◌+◌, ◌-◌, ◌*◌, ◌<◌, ◌≤◌, ℕ, List, Option, Some, replicate, vec_len, length, refl, ap, sym, arith}
+use Rattle.std.proofs.Common.{◌≡◌, ◌∷◌, ◌∙◌, ◌-◌, ◌*◌, ℕ, List, Some, replicate, vec_len, refl, ap, arith}
 use Rattle.flat_model.specs.declared.plugins.SetSpec.{SetSpec}
 use Rattle.flat_model.specs.declared.journals.Item.TheVariants.{Ordered}
 use Rattle.flat_model.specs.declared.journals.Entry.{Entry}
@@ -7,47 +7,40 @@ use Rattle.flat_model.specs.declared.journals.Order.TheVariants.{Register}
 use Rattle.flat_model.specs.declared.journals.Origin.TheVariants.{Control}
 use Rattle.flat_model.specs.Acts.{calling}
 use Rattle.flat_model.specs.Log.{log}
-use Rattle.flat_model.specs.Registry.{Plugins, after_order, refusal}
-use Rattle.watcher_api.specs.Attachment.{Attachment, opening}
+use Rattle.flat_model.specs.Registry.{Plugins, after_order}
+use Rattle.watcher_api.specs.Attachment.{opening}
 use Rattle.host_state.proofs.Controlling.{may_control, can_register, registered_sound, row_set, row_below}
 use Rattle.host_state.proofs.states.HostState.register_by.Goals as goal
 
 pub arrivals_in-row-requires-clause-number : goal.arrivals_in-row-requires-clause-number
 arrivals_in-row-requires-clause-number g c =
-    (can_register _ c.args.plugin c.args.spec c.self.invariant (may_control c.args.self.now _ c.args.party
-    (Register c.args.plugin c.args.spec) c.self.view_is c.requires.caught_up c.requires.controller c.requires.allowed).allowed).one
+    (can_register c.args.self.now _ c.args.plugin c.args.spec c.self.view_is c.self.invariant c.requires.allowed).one
 
 pub arrivals_in-row-requires-clause-most : goal.arrivals_in-row-requires-clause-most
 arrivals_in-row-requires-clause-most g c =
-    (can_register _ c.args.plugin c.args.spec c.self.invariant (may_control c.args.self.now _ c.args.party
-    (Register c.args.plugin c.args.spec) c.self.view_is c.requires.caught_up c.requires.controller c.requires.allowed).allowed).most
+    (can_register c.args.self.now _ c.args.plugin c.args.spec c.self.view_is c.self.invariant c.requires.allowed).most
 
 pub arrivals_in-row-requires-clause-subs : goal.arrivals_in-row-requires-clause-subs
 arrivals_in-row-requires-clause-subs g c =
-    (can_register _ c.args.plugin c.args.spec c.self.invariant (may_control c.args.self.now _ c.args.party
-    (Register c.args.plugin c.args.spec) c.self.view_is c.requires.caught_up c.requires.controller c.requires.allowed).allowed).attachable.subs
+    (can_register c.args.self.now _ c.args.plugin c.args.spec c.self.view_is c.self.invariant c.requires.allowed).attachable.subs
 
 pub arrivals_in-row-requires-clause-entries : goal.arrivals_in-row-requires-clause-entries
 arrivals_in-row-requires-clause-entries g c =
-    (can_register _ c.args.plugin c.args.spec c.self.invariant (may_control c.args.self.now _ c.args.party
-    (Register c.args.plugin c.args.spec) c.self.view_is c.requires.caught_up c.requires.controller c.requires.allowed).allowed).attachable.entries
+    (can_register c.args.self.now _ c.args.plugin c.args.spec c.self.view_is c.self.invariant c.requires.allowed).attachable.entries
 
 pub arrivals_in-row-requires-clause-boxes : goal.arrivals_in-row-requires-clause-boxes
 arrivals_in-row-requires-clause-boxes g c =
-    let can = can_register _ c.args.plugin c.args.spec c.self.invariant (may_control c.args.self.now _ c.args.party
-    (Register c.args.plugin c.args.spec) c.self.view_is c.requires.caught_up c.requires.controller c.requires.allowed).allowed in
+    let can = can_register c.args.self.now _ c.args.plugin c.args.spec c.self.view_is c.self.invariant c.requires.allowed in
     omega (arith, can.boxes, ap (λ (n : ℕ). n * calling c.args.spec.subs) c.harts-harts.ensures.harts)
 
 pub overflow_sub-from : goal.overflow_sub-from
 overflow_sub-from g c =
-    let can = can_register _ c.args.plugin c.args.spec c.self.invariant (may_control c.args.self.now _ c.args.party
-    (Register c.args.plugin c.args.spec) c.self.view_is c.requires.caught_up c.requires.controller c.requires.allowed).allowed in
+    let can = can_register c.args.self.now _ c.args.plugin c.args.spec c.self.view_is c.self.invariant c.requires.allowed in
     omega (arith, can.one, c.from.ensures)
 
 pub index_mut-requires : goal.index_mut-requires
 index_mut-requires g c =
-    let can = can_register _ c.args.plugin c.args.spec c.self.invariant (may_control c.args.self.now _ c.args.party
-    (Register c.args.plugin c.args.spec) c.self.view_is c.requires.caught_up c.requires.controller c.requires.allowed).allowed in
+    let can = can_register c.args.self.now _ c.args.plugin c.args.spec c.self.view_is c.self.invariant c.requires.allowed in
     row_below _ c.self.inside.waiting c.from.result c.args.plugin c.from.ensures can.row
 
 pub invariant_of-self-2 : goal.invariant_of-self-2
@@ -68,9 +61,9 @@ invariant_of-self-2 g c =
     ∙ ap (λ (es : List Entry). Ordered (Control c.args.party) order ∷ log es) c.room_for_order.ensures.entries)
     (c.record_order-self-inside.ensures.table ∙ ap (λ (o : Order). after_order o c.room_for_order.new.registry.table) same
     ∙ ap (λ (r : Plugins). after_order order r) c.room_for_order.ensures.table)
-    (row_set _ c.self.inside.waiting.items _ (c.from.result - 1) (plugin - 1) c.arrivals_in-row.result _ refl (c.arrivals_in-row.ensures.sets
-    ∙ ap (λ (n : ℕ). replicate n (Some (opening plugin spec))) harts) place)
-    (row_set _ c.self.inside.waiting.items _ (c.from.result - 1) (plugin - 1) c.arrivals_in-row.result _ refl (c.arrivals_in-row.ensures.specs
-    ∙ ap (λ (n : ℕ). replicate n (Some spec)) harts) place)
+    (row_set _ c.self.inside.waiting.items _ (c.from.result - 1) (plugin - 1) c.arrivals_in-row.result _ refl
+    (c.arrivals_in-row.ensures.sets ∙ ap (λ (n : ℕ). replicate n (Some (opening plugin spec))) harts) place)
+    (row_set _ c.self.inside.waiting.items _ (c.from.result - 1) (plugin - 1) c.arrivals_in-row.result _ refl
+    (c.arrivals_in-row.ensures.specs ∙ ap (λ (n : ℕ). replicate n (Some spec)) harts) place)
     (omega (arith, c.arrivals_in-row.ensures.left, ap (λ (n : ℕ). n * calling spec.subs) harts))
     (ap (λ v. vec_len v) c.arrivals_in-row.ensures.closers)

@@ -1,4 +1,4 @@
-use Rattle.std.proofs.Common.{◌≡◌, ◌∷◌, ◌∙◌, ap}
+use Rattle.std.proofs.Common.{◌∷◌, ◌∙◌, ap}
 use Rattle.flat_model.specs.declared.journals.Item.TheVariants.{Ordered}
 use Rattle.flat_model.specs.declared.journals.Origin.TheVariants.{Control}
 use Rattle.flat_model.specs.Log.{log}
@@ -12,5 +12,6 @@ invariant_of-self-2 g c =
     c.record_order-self-inside.new.registry c.self.invariant
     (may_control c.args.self.now _ c.args.party c.args.order c.self.view_is c.requires.caught_up c.requires.controller
     c.requires.allowed) c.requires.withdrawal c.record_order-self-inside.ensures.past
-    (c.record_order-self-inside.ensures.journal ∙ ap (λ entries. Ordered (Control c.args.party) c.args.order ∷ log entries) c.room_for_order.ensures.entries)
+    (c.record_order-self-inside.ensures.journal
+    ∙ ap (λ entries. Ordered (Control c.args.party) c.args.order ∷ log entries) c.room_for_order.ensures.entries)
     (c.record_order-self-inside.ensures.table ∙ ap (λ (r : Plugins). after_order c.args.order r) c.room_for_order.ensures.table)
