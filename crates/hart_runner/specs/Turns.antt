@@ -3,7 +3,11 @@ use Rattle.std.specs.Prelude.{◌≡◌, ◌≢◌, ◌≤◌, ◌+◌, ℕ, tru
 use Rattle.flat_model.specs.declared.journals.Item.{Item}
 use Rattle.flat_model.specs.declared.limits.TheConstants.{BLOCK_WORDS}
 use Rattle.flat_model.specs.Log.{party, total_steps}
+use Rattle.flat_model.specs.declared.plugins.Ask.TheVariants.{Stay}
 use Rattle.baton_gate.specs.Logs.{GoesOn}
+use Rattle.event_walk.specs.Matches.{classes_of}
+use Rattle.watcher_api.specs.Acting.{acts_of, ask_of, walks_of, IsAbsent}
+use Rattle.instr_lists.specs.Delivery.{no_asks, each_walks}
 use Rattle.run_rules.specs.Legal.{is_there}
 use Rattle.run_order.specs.InOrder.{Task, task_run}
 use Rattle.host_state.specs.Taking.{IsGotBy}
@@ -55,6 +59,14 @@ module _ {W : Type 0} where
     pub running : seat.hart.ending ≡ None
     pub is : IsBlock seat.image.value seat.hart.pc block
     pub ran : IsPrivateTurn seat.image.value seat.limit seat.no ahead.ran seat.hart ahead.hart seat.raw.events
+
+  -- its boxes have heard its events, and it notes what they asked for
+  pub record HasHeard (old new : Seat W) : Type 0 where
+    pub acts : acts_of new.attached ≡ acts_of old.attached
+    pub walks : walks_of new.asks.first new.attached
+        ≡ each_walks (classes_of old.image.value) old.specs old.raw.events (walks_of no_asks old.attached)
+    pub others : (p : ℕ) → 1 ≤ p → IsAbsent p old.attached → ask_of p new.asks.first ≡ Stay
+    pub rest : new ≡ record old { attached = new.attached; asks = new.asks }
 
   -- the runner has no seat exactly once its hart has left
   abbrev pub IsPlaced : Turned → Option (Seat W) → (Seat W → Type 0) → Type 0

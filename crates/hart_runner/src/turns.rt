@@ -1,12 +1,17 @@
 //! The turns of a runner.
 
-ghost use Rattle.std.specs.Prelude.{◌≡◌, ◌+◌, ◌-◌, ◌^◌, ◌≤◌, ◌<◌, true, false, min, List, None, Some, IsSome, IfOk, OnOk, OnErr, MatchOption};
+ghost use Rattle.std.specs.Prelude.{◌≡◌, ◌+◌, ◌-◌, ◌^◌, ◌≤◌, ◌<◌, true, false, min, List, All, None, Some, IsSome, IfOk, OnOk, OnErr, MatchOption};
+ghost use Rattle.block_finder.specs.Block.{IsBlock};
+ghost use Rattle.watcher_api.specs.Acting.{acts_of};
+ghost use Rattle.instr_lists.specs.Sorts.{LiesIn};
+ghost use Rattle.instr_lists.specs.Delivery.{acts_with};
 ghost use Rattle.run_order.specs.InOrder.{Task};
 ghost use Rattle.baton_gate.specs.Passes.{IsPassOf, known, seen, holds, carries};
 ghost use Rattle.hart_runner.specs.Parts.{IsStillPart, IsPart};
-ghost use Rattle.hart_runner.specs.Turns.{HasGone, HasLists, IsAhead, IsDone, Sits, turned_of};
+ghost use Rattle.hart_runner.specs.Turns.{HasGone, HasHeard, HasLists, IsAhead, IsDone, Sits, turned_of};
 ghost use Rattle.instr_lists.specs.declared.kept_lists.KeptList.{KeptList};
 
+use crate::delivering::deliver_turn;
 use crate::going_ahead::Ahead;
 use crate::holding::Hold;
 use crate::parts::{take_running_part, take_still_part};
@@ -16,6 +21,7 @@ use baton_gate::{Gate, Pass};
 use block_finder::Block;
 use flat_model::NoMemory;
 use host_state::HostState;
+use instr_lists::ListCache;
 use std::sync::Wait;
 use watcher_api::{Closer, Held, Watcher};
 
@@ -135,4 +141,24 @@ fn hold_running_once<W: Watcher, C: Closer<Held<W>>, R: Wait>(
     let held = take_running_part(&mut state, place, ahead, block);
     gate.give(rt, pass, state);
     held
+}
+
+/// Lets the boxes of the seat hear the Turn that its hart made in a block.
+fn hear<W: Watcher>(
+    place: &mut Option<Seat<W>>,
+    block: &Block,
+    lists: &mut ListCache,
+) -> Result<(), NoMemory>
+    requires block { MatchOption place.old ⊥ (λ seat. IsBlock seat.image.value block.now.pc block.now) }
+    requires kept { MatchOption place.old ⊥ (λ seat. seat.raw.kept ≡ true) }
+    requires lies { MatchOption place.old ⊥ (λ seat. All (λ e. LiesIn block.now e.what) seat.raw.events) }
+    requires lists { MatchOption place.old ⊥ (HasLists lists.old) }
+    requires acts { MatchOption place.old ⊥ (λ seat. acts_of seat.attached ≡ acts_with seat.specs) }
+    ensures heard { OnOk result (MatchOption place.old ⊥ (λ seat. MatchOption place.new ⊥ (HasHeard seat))) }
+    ensures lists { OnOk result (MatchOption place.new ⊥ (HasLists lists.new)) }
+{
+    let Some(seat) = place else {
+        return Err(NoMemory);
+    };
+    deliver_turn(seat, block, lists)
 }
