@@ -169,6 +169,10 @@ module _ {W : Type 0} where
       → SitAll o h seen place → Ahead seat mid → mid.raw.kept ≡ seat.raw.kept → (t : Task) → o ≡ Some t → Sits t h seen mid
   sits_at o h seen place seat mid is all same kept t e = sits_ahead t h seen seat mid same kept (at_seat (Sits t h seen) place seat is (all t e))
 
+  pub seat_sits : (o : Option Task) (h : ℕ) (seen : List Item) (place : Option (Seat W)) (seat : Seat W) → place ≡ Some seat
+      → SitAll o h seen place → (t : Task) → o ≡ Some t → Sits t h seen seat
+  seat_sits o h seen place seat is all t e = at_seat (Sits t h seen) place seat is (all t e)
+
   pub below_limit : (o : Option Task) (h : ℕ) (seen : List Item) (place : Option (Seat W)) (seat : Seat W) (block : Stretch) → IsSome o
       → place ≡ Some seat → SitAll o h seen place → MatchOption place ⊥ (IsAt block) → seat.hart.steps < seat.limit
   below_limit o h seen place seat block some is all at =

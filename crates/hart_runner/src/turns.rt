@@ -12,7 +12,7 @@ use crate::delivering::deliver_turn;
 use crate::going_ahead::{Ahead, go_ahead};
 use crate::holding::Hold;
 use crate::parts::{take_running_part, take_still_part};
-use crate::runners::Turned;
+use crate::runners::{Runner, Turned};
 use crate::seats::Seat;
 use baton_gate::{Gate, Pass};
 use block_finder::{Block, BlockCache};
@@ -199,7 +199,7 @@ fn turn_running<W: Watcher, C: Closer<Held<W>>, R: Wait>(
     Ok(Turned::Went)
 }
 
-/// The turn of a hart that runs.
+/// The turn of a hart that runs, with the block that it is at.
 fn turn_awake<W: Watcher, C: Closer<Held<W>>, R: Wait>(
     rt: &R,
     gate: &Gate<Box<HostState<W, C>>>,
@@ -233,4 +233,47 @@ fn turn_awake<W: Watcher, C: Closer<Held<W>>, R: Wait>(
         return Err(NoMemory);
     };
     turn_running(rt, gate, pass, place, block, lists)
+}
+
+impl<W: Watcher, C: Closer<Held<W>>> Runner<W, C> {
+    /// One turn of the hart: one hold of the shared state, and the calls of its boxes behind it. In the hold it records its asks
+    /// and its Backs and takes the sets that arrived. A hart that runs then records the Turn of one block, one that has ended
+    /// leaves, and a parked one comes to its start where it has one, leaves, or waits. Where it finds no memory, or another hart
+    /// found none, the runner has no seat any more.
+    pub fn turn<R: Wait>(
+        &mut self,
+        rt: &R,
+        gate: &Gate<Box<HostState<W, C>>>,
+    ) -> Result<Turned, NoMemory>
+        requires gate { IsPassOf gate.now self.old.pass }
+        requires free { holds self.old.pass ≡ false }
+        requires order { (t : Task) → carries self.old.pass ≡ Some t
+            → MatchOption self.old.seat ⊥ (Sits t self.old.pass.party (seen self.old.pass)) }
+        requires blocks { MatchOption self.old.seat ⊥ (λ seat. MayServe self.old.blocks seat.image.value) }
+        requires lists { MatchOption self.old.seat ⊥ (HasLists self.old.lists) }
+        ensures gate { IsPassOf gate.now self.new.pass }
+        ensures same { known self.new.pass ≡ record (known self.old.pass) { seen = seen self.new.pass } }
+        ensures party { self.new.pass.party ≡ self.old.pass.party }
+        ensures takes { min (self.old.pass.takes + 1) (2 ^ 64 - 1) ≤ self.new.pass.takes }
+        ensures done { (t : Task) → carries self.old.pass ≡ Some t → IfOk result
+            (λ turned. IsDone turned t self.old.pass.party (seen self.old.pass) (seen self.new.pass) self.new.seat) }
+        ensures blocks { MatchOption self.old.seat ⊥ (λ seat. MayServe self.new.blocks seat.image.value) }
+        ensures lists { OnOk result (MatchOption self.new.seat (Unit {0}) (HasLists self.new.lists)) }
+        ensures failed { OnErr result (self.new.seat ≡ None) }
+    {
+        let Some(seat) = &self.seat else {
+            return Err(NoMemory);
+        };
+        if seat.hart.parked || seat.hart.ending.is_some() {
+            return turn_still(rt, gate, &mut self.pass, &mut self.seat);
+        }
+        turn_awake(
+            rt,
+            gate,
+            &mut self.pass,
+            &mut self.seat,
+            &mut self.blocks,
+            &mut self.lists,
+        )
+    }
 }
