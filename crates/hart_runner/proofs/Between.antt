@@ -111,7 +111,7 @@ pub added_at : (h k : ℕ) (a b now : List Item) → k ≡ h → b ≡ a → Goe
 added_at h k a b now same at added =
     subst (λ (y : ℕ × List Item). GoesOn (λ i. party i ≡ y.0) y.1 now) (λ i. (sym same i, sym at i)) added
 
-regone : (h k : ℕ) (seen now : List Item) (P Q : List Item → Type 0) → k ≡ h → ((taken : List Item) → P taken → Q taken)
+pub regone : (h k : ℕ) (seen now : List Item) (P Q : List Item → Type 0) → k ≡ h → ((taken : List Item) → P taken → Q taken)
     → HasGone k seen now P → HasGone h seen now Q
 regone h k seen now P Q same f gone =
     subst (λ (n : ℕ). HasGone n seen now Q) same
@@ -222,7 +222,7 @@ module _ {W : Type 0} where
             (sym (ap (λ x. x.value) keeps.image)) is.of_image;
       }
 
-  still_lists : (hold : Hold) (place : Option (Seat W)) (seat : Seat W) (t : Task) (taken now : List Item) (kept : List KeptList)
+  pub still_lists : (hold : Hold) (place : Option (Seat W)) (seat : Seat W) (t : Task) (taken now : List Item) (kept : List KeptList)
       → IsStillPart hold t taken now seat place → HasLists kept seat → MatchOption place (Unit {0}) (HasLists kept)
   still_lists holds.Turned place seat t taken now kept is are = absurd is
   still_lists holds.GaveBack None seat t taken now kept is are = tt

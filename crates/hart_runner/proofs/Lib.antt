@@ -5,3 +5,4 @@ pub mod Entered
 pub mod Held
 pub mod Lists
 pub mod Between
+pub mod Heard

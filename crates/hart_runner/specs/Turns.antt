@@ -1,5 +1,5 @@
 -- What a runner knows between its holds, and what a turn adds to the log.
-use Rattle.std.specs.Prelude.{◌≡◌, ◌≢◌, ◌≤◌, ◌+◌, ℕ, true, false, List, [], None, IsSome, Option, MatchOption}
+use Rattle.std.specs.Prelude.{◌≡◌, ◌≢◌, ◌≤◌, ◌+◌, ℕ, true, false, List, [], None, Option, MatchOption, All}
 use Rattle.flat_model.specs.declared.journals.Item.{Item}
 use Rattle.flat_model.specs.declared.limits.TheConstants.{BLOCK_WORDS}
 use Rattle.flat_model.specs.Log.{party, total_steps}
@@ -7,7 +7,8 @@ use Rattle.flat_model.specs.declared.plugins.Ask.TheVariants.{Stay}
 use Rattle.baton_gate.specs.Logs.{GoesOn}
 use Rattle.event_walk.specs.Matches.{classes_of}
 use Rattle.watcher_api.specs.Acting.{acts_of, ask_of, walks_of, IsAbsent}
-use Rattle.instr_lists.specs.Delivery.{no_asks, each_walks}
+use Rattle.instr_lists.specs.Delivery.{acts_with, no_asks, each_walks}
+use Rattle.instr_lists.specs.Sorts.{LiesIn}
 use Rattle.run_rules.specs.Legal.{is_there}
 use Rattle.run_order.specs.InOrder.{Task, task_run}
 use Rattle.host_state.specs.Taking.{IsGotBy}
@@ -53,12 +54,26 @@ module _ {W : Type 0} where
   abbrev pub HasLists : List KeptList → Seat W → Type 0
   HasLists kept seat = AreLists seat.image.value seat.generation seat.specs kept
 
-  -- its hart runs, is at a block, and has gone ahead in it
+  -- its hart runs, and is at a block
+  pub record IsAt (block : Stretch) (seat : Seat W) : Type 0 where
+    pub awake : seat.hart.parked ≡ false
+    pub running : seat.hart.ending ≡ None
+    pub is : IsBlock seat.image.value seat.hart.pc block
+
+  -- and has gone ahead in it
   pub record IsAhead (seat : Seat W) (ahead : Ahead) (block : Stretch) : Type 0 where
     pub awake : seat.hart.parked ≡ false
     pub running : seat.hart.ending ≡ None
     pub is : IsBlock seat.image.value seat.hart.pc block
     pub ran : IsPrivateTurn seat.image.value seat.limit seat.no ahead.ran seat.hart ahead.hart seat.raw.events
+
+  -- what delivery needs
+  pub record MayHear (block : Stretch) (lists : List KeptList) (seat : Seat W) : Type 0 where
+    pub is : IsBlock seat.image.value block.pc block
+    pub kept : seat.raw.kept ≡ true
+    pub lies : All (λ e. LiesIn block e.what) seat.raw.events
+    pub cached : HasLists lists seat
+    pub acts : acts_of seat.attached ≡ acts_with seat.specs
 
   -- its boxes have heard its events, and it notes what they asked for
   pub record HasHeard (old new : Seat W) : Type 0 where

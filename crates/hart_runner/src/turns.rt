@@ -1,24 +1,21 @@
 //! The turns of a runner.
 
-ghost use Rattle.std.specs.Prelude.{◌≡◌, ◌+◌, ◌-◌, ◌^◌, ◌≤◌, ◌<◌, true, false, min, List, All, None, Some, IsSome, IfOk, OnOk, OnErr, MatchOption};
-ghost use Rattle.block_finder.specs.Block.{IsBlock};
-ghost use Rattle.watcher_api.specs.Acting.{acts_of};
-ghost use Rattle.instr_lists.specs.Sorts.{LiesIn};
-ghost use Rattle.instr_lists.specs.Delivery.{acts_with};
+ghost use Rattle.std.specs.Prelude.{◌≡◌, ◌+◌, ◌-◌, ◌^◌, ◌≤◌, ◌<◌, true, false, min, List, None, Some, IsSome, IfOk, OnOk, OnErr, MatchOption};
+ghost use Rattle.block_finder.specs.Caches.{MayServe};
 ghost use Rattle.run_order.specs.InOrder.{Task};
 ghost use Rattle.baton_gate.specs.Passes.{IsPassOf, known, seen, holds, carries};
 ghost use Rattle.hart_runner.specs.Parts.{IsStillPart, IsPart};
-ghost use Rattle.hart_runner.specs.Turns.{HasGone, HasHeard, HasLists, IsAhead, IsDone, Sits, turned_of};
+ghost use Rattle.hart_runner.specs.Turns.{HasGone, HasHeard, HasLists, IsAhead, IsAt, IsDone, MayHear, Sits, turned_of};
 ghost use Rattle.instr_lists.specs.declared.kept_lists.KeptList.{KeptList};
 
 use crate::delivering::deliver_turn;
-use crate::going_ahead::Ahead;
+use crate::going_ahead::{Ahead, go_ahead};
 use crate::holding::Hold;
 use crate::parts::{take_running_part, take_still_part};
-use crate::runners::Turned;
+use crate::runners::{Runner, Turned};
 use crate::seats::Seat;
 use baton_gate::{Gate, Pass};
-use block_finder::Block;
+use block_finder::{Block, BlockCache};
 use flat_model::NoMemory;
 use host_state::HostState;
 use instr_lists::ListCache;
@@ -149,11 +146,7 @@ fn hear<W: Watcher>(
     block: &Block,
     lists: &mut ListCache,
 ) -> Result<(), NoMemory>
-    requires block { MatchOption place.old ⊥ (λ seat. IsBlock seat.image.value block.now.pc block.now) }
-    requires kept { MatchOption place.old ⊥ (λ seat. seat.raw.kept ≡ true) }
-    requires lies { MatchOption place.old ⊥ (λ seat. All (λ e. LiesIn block.now e.what) seat.raw.events) }
-    requires lists { MatchOption place.old ⊥ (HasLists lists.old) }
-    requires acts { MatchOption place.old ⊥ (λ seat. acts_of seat.attached ≡ acts_with seat.specs) }
+    requires may { MatchOption place.old ⊥ (MayHear block.now lists.old) }
     ensures heard { OnOk result (MatchOption place.old ⊥ (λ seat. MatchOption place.new ⊥ (HasHeard seat))) }
     ensures lists { OnOk result (MatchOption place.new ⊥ (HasLists lists.new)) }
 {
@@ -161,4 +154,126 @@ fn hear<W: Watcher>(
         return Err(NoMemory);
     };
     deliver_turn(seat, block, lists)
+}
+
+/// The turn of a hart that runs, in the block that it is at: it goes ahead, takes the state and records its Turn, and its
+/// boxes hear it once the state is given back.
+fn turn_running<W: Watcher, C: Closer<Held<W>>, R: Wait>(
+    rt: &R,
+    gate: &Gate<Box<HostState<W, C>>>,
+    pass: &mut Pass<Box<HostState<W, C>>>,
+    place: &mut Option<Seat<W>>,
+    block: &Block,
+    lists: &mut ListCache,
+) -> Result<Turned, NoMemory>
+    requires gate { IsPassOf gate.now pass.old }
+    requires free { holds pass.old ≡ false }
+    requires sits { (t : Task) → carries pass.old ≡ Some t
+        → MatchOption place.old ⊥ (Sits t pass.old.party (seen pass.old)) }
+    requires runs { MatchOption place.old ⊥ (IsAt block.now) }
+    requires lists { MatchOption place.old ⊥ (HasLists lists.old) }
+    ensures gate { IsPassOf gate.now pass.new }
+    ensures same { known pass.new ≡ record (known pass.old) { seen = seen pass.new } }
+    ensures party { pass.new.party ≡ pass.old.party }
+    ensures takes { min (pass.old.takes + 1) (2 ^ 64 - 1) ≤ pass.new.takes }
+    ensures done { (t : Task) → carries pass.old ≡ Some t
+        → IfOk result (λ turned. IsDone turned t pass.old.party (seen pass.old) (seen pass.new) place.new) }
+    ensures lists { OnOk result (MatchOption place.new (Unit {0}) (HasLists lists.new)) }
+    ensures failed { OnErr result (place.new ≡ None) }
+{
+    let Some(seat) = place else {
+        return Err(NoMemory);
+    };
+    let ahead = go_ahead(seat, block);
+    let Ok(hold) = hold_running_once(rt, gate, pass, place, ahead, block) else {
+        *place = None;
+        return Err(NoMemory);
+    };
+    let Hold::Turned = hold else {
+        return Ok(turned_by(hold));
+    };
+    let Ok(()) = hear(place, block, lists) else {
+        give_up(rt, gate, pass, place);
+        return Err(NoMemory);
+    };
+    Ok(Turned::Went)
+}
+
+/// The turn of a hart that runs, with the block that it is at.
+fn turn_awake<W: Watcher, C: Closer<Held<W>>, R: Wait>(
+    rt: &R,
+    gate: &Gate<Box<HostState<W, C>>>,
+    pass: &mut Pass<Box<HostState<W, C>>>,
+    place: &mut Option<Seat<W>>,
+    blocks: &mut BlockCache,
+    lists: &mut ListCache,
+) -> Result<Turned, NoMemory>
+    requires gate { IsPassOf gate.now pass.old }
+    requires free { holds pass.old ≡ false }
+    requires sits { (t : Task) → carries pass.old ≡ Some t
+        → MatchOption place.old ⊥ (Sits t pass.old.party (seen pass.old)) }
+    requires runs { MatchOption place.old ⊥ (λ seat. (seat.hart.parked ≡ false) × (seat.hart.ending ≡ None)) }
+    requires blocks { MatchOption place.old ⊥ (λ seat. MayServe blocks.old seat.image.value) }
+    requires lists { MatchOption place.old ⊥ (HasLists lists.old) }
+    ensures gate { IsPassOf gate.now pass.new }
+    ensures same { known pass.new ≡ record (known pass.old) { seen = seen pass.new } }
+    ensures party { pass.new.party ≡ pass.old.party }
+    ensures takes { min (pass.old.takes + 1) (2 ^ 64 - 1) ≤ pass.new.takes }
+    ensures done { (t : Task) → carries pass.old ≡ Some t
+        → IfOk result (λ turned. IsDone turned t pass.old.party (seen pass.old) (seen pass.new) place.new) }
+    ensures blocks { MatchOption place.old ⊥ (λ seat. MayServe blocks.new seat.image.value) }
+    ensures lists { OnOk result (MatchOption place.new (Unit {0}) (HasLists lists.new)) }
+    ensures failed { OnErr result (place.new ≡ None) }
+{
+    let Some(seat) = place else {
+        return Err(NoMemory);
+    };
+    let Ok(block) = blocks.lookup(&seat.image, seat.hart.pc) else {
+        give_up(rt, gate, pass, place);
+        return Err(NoMemory);
+    };
+    turn_running(rt, gate, pass, place, block, lists)
+}
+
+impl<W: Watcher, C: Closer<Held<W>>> Runner<W, C> {
+    /// One turn of the hart: one hold of the shared state, and the calls of its boxes behind it. In the hold it records its asks
+    /// and its Backs and takes the sets that arrived. A hart that runs then records the Turn of one block, one that has ended
+    /// leaves, and a parked one comes to its start where it has one, leaves, or waits. Where it finds no memory, or another hart
+    /// found none, the runner has no seat any more.
+    pub fn turn<R: Wait>(
+        &mut self,
+        rt: &R,
+        gate: &Gate<Box<HostState<W, C>>>,
+    ) -> Result<Turned, NoMemory>
+        requires gate { IsPassOf gate.now self.old.pass }
+        requires free { holds self.old.pass ≡ false }
+        requires order { (t : Task) → carries self.old.pass ≡ Some t
+            → MatchOption self.old.seat ⊥ (Sits t self.old.pass.party (seen self.old.pass)) }
+        requires blocks { MatchOption self.old.seat ⊥ (λ seat. MayServe self.old.blocks seat.image.value) }
+        requires lists { MatchOption self.old.seat ⊥ (HasLists self.old.lists) }
+        ensures gate { IsPassOf gate.now self.new.pass }
+        ensures same { known self.new.pass ≡ record (known self.old.pass) { seen = seen self.new.pass } }
+        ensures party { self.new.pass.party ≡ self.old.pass.party }
+        ensures takes { min (self.old.pass.takes + 1) (2 ^ 64 - 1) ≤ self.new.pass.takes }
+        ensures done { (t : Task) → carries self.old.pass ≡ Some t → IfOk result
+            (λ turned. IsDone turned t self.old.pass.party (seen self.old.pass) (seen self.new.pass) self.new.seat) }
+        ensures blocks { MatchOption self.old.seat ⊥ (λ seat. MayServe self.new.blocks seat.image.value) }
+        ensures lists { OnOk result (MatchOption self.new.seat (Unit {0}) (HasLists self.new.lists)) }
+        ensures failed { OnErr result (self.new.seat ≡ None) }
+    {
+        let Some(seat) = &self.seat else {
+            return Err(NoMemory);
+        };
+        if seat.hart.parked || seat.hart.ending.is_some() {
+            return turn_still(rt, gate, &mut self.pass, &mut self.seat);
+        }
+        turn_awake(
+            rt,
+            gate,
+            &mut self.pass,
+            &mut self.seat,
+            &mut self.blocks,
+            &mut self.lists,
+        )
+    }
 }
