@@ -171,7 +171,6 @@ module _ {W : Type 0} where
   still_there : (t : Task) (h : ℕ) (now : List Item) (seat : Seat W) → Sits t h now seat → is_there (task_run t) h now ≡ true
   still_there t h now seat sits = ap (λ (k : ℕ). is_there (task_run t) k now) (sym sits.number) ∙ sits.seated.there
 
-
   pub still_done : (hold : Hold) (place : Option (Seat W)) (seat : Seat W) (t : Task) (h : ℕ) (seen now : List Item)
       → Sits t h seen seat → HasGone seat.no seen now (λ taken. IsStillPart hold t taken now seat place)
       → IsDone (turned_of hold) t h seen now place
