@@ -17,6 +17,7 @@ use Rattle.flat_model.specs.Step.{steps_of}
 use Rattle.flat_model.specs.World.{HartState}
 use Rattle.flat_model.specs.Worlds.{world, hart_of}
 use Rattle.block_finder.specs.Block.{Stretch, IsBlock}
+use Rattle.block_finder.specs.Caches.{MayServe}
 use Rattle.event_walk.specs.Matches.{classes_of}
 use Rattle.watcher_api.specs.Acting.{acts_of, ask_of, walks_of, IsAbsent}
 use Rattle.watcher_api.specs.Attachment.{Attachment}
@@ -256,3 +257,22 @@ module _ {W : Type 0} where
       let did = gone_at o r hold seen now block mid place is gone task.0 task.1 in
       still_lists hold place mid task.0 did.taken now kept (part_still hold task.0 did.taken now block mid place other did.what)
       (subst (λ (s : Seat W). AreLists s.image.value s.generation s.specs kept) (sym same) (at_seat (HasLists kept) start seat begins are))
+
+  -- The cache of blocks serves the task's image, which is the seat's.
+
+  pub serves_seat : (o : Option Task) (h : ℕ) (seen : List Item) (place : Option (Seat W)) (cache : Option Program) → IsSome o
+      → SitAll o h seen place → ((t : Task) → o ≡ Some t → MayServe cache t.machine.image)
+      → MatchOption place ⊥ (λ seat. MayServe cache seat.image.value)
+  serves_seat o h seen None cache some all serves = let task = some_task o some in absurd (all task.0 task.1)
+  serves_seat o h seen (Some seat) cache some all serves =
+      let task = some_task o some in
+      let sits : Sits task.0 h seen seat = all task.0 task.1 in
+      subst (MayServe cache) (sym sits.image) (serves task.0 task.1)
+
+  pub serves_task : (o : Option Task) (h : ℕ) (seen : List Item) (place : Option (Seat W)) (cache : Option Program)
+      → SitAll o h seen place → MatchOption place ⊥ (λ seat. MayServe cache seat.image.value)
+      → (t : Task) → o ≡ Some t → MayServe cache t.machine.image
+  serves_task o h seen None cache all serves t e = absurd serves
+  serves_task o h seen (Some seat) cache all serves t e =
+      let sits : Sits t h seen seat = all t e in
+      subst (MayServe cache) sits.image serves

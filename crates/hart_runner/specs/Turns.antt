@@ -1,6 +1,7 @@
 -- What a runner knows between its holds, and what a turn adds to the log.
-use Rattle.std.specs.Prelude.{◌≡◌, ◌≢◌, ◌≤◌, ◌+◌, ℕ, true, false, List, [], None, Option, MatchOption, All}
+use Rattle.std.specs.Prelude.{◌≡◌, ◌≢◌, ◌≤◌, ◌+◌, ℕ, true, false, List, [], ◌∷◌, None, Option, MatchOption, All}
 use Rattle.flat_model.specs.declared.journals.Item.{Item}
+use Rattle.flat_model.specs.declared.journals.Item.TheVariants as items
 use Rattle.flat_model.specs.declared.limits.TheConstants.{BLOCK_WORDS}
 use Rattle.flat_model.specs.Log.{party, total_steps}
 use Rattle.flat_model.specs.declared.plugins.Ask.TheVariants.{Stay}
@@ -24,6 +25,11 @@ use Rattle.hart_runner.specs.declared.runners.Turned.TheVariants.{Went, Left, Wa
 use Rattle.hart_runner.specs.declared.seats.Seat.{Seat}
 use Rattle.hart_runner.specs.Parts.{HasLeftThen}
 use Rattle.hart_runner.specs.Seats.{IsSeated, HasWritten, Own}
+
+-- the last item of a log is that hart h left
+pub record HasLeftLast (h : ℕ) (now : List Item) : Type 0 where
+  pub before : List Item
+  pub last : now ≡ items.Left h ∷ before
 
 -- what hart h's pass has seen became this: others added to the log, and then the hart, with at most a block's steps
 pub record HasGone (h : ℕ) (seen now : List Item) (What : List Item → Type 0) : Type 0 where

@@ -5,7 +5,7 @@ ghost use Rattle.block_finder.specs.Caches.{MayServe};
 ghost use Rattle.run_order.specs.InOrder.{Task};
 ghost use Rattle.baton_gate.specs.Passes.{IsPassOf, known, seen, holds, carries};
 ghost use Rattle.hart_runner.specs.Parts.{IsStillPart, IsPart};
-ghost use Rattle.hart_runner.specs.Turns.{HasGone, HasHeard, HasLists, IsAhead, IsAt, IsDone, MayHear, Sits, turned_of};
+ghost use Rattle.hart_runner.specs.Turns.{HasGone, HasHeard, HasLeftLast, HasLists, IsAhead, IsAt, IsDone, MayHear, Sits, turned_of};
 ghost use Rattle.instr_lists.specs.declared.kept_lists.KeptList.{KeptList};
 
 use crate::delivering::deliver_turn;
@@ -249,7 +249,7 @@ impl<W: Watcher, C: Closer<Held<W>>> Runner<W, C> {
         requires free { holds self.old.pass ≡ false }
         requires order { (t : Task) → carries self.old.pass ≡ Some t
             → MatchOption self.old.seat ⊥ (Sits t self.old.pass.party (seen self.old.pass)) }
-        requires blocks { MatchOption self.old.seat ⊥ (λ seat. MayServe self.old.blocks seat.image.value) }
+        requires blocks { (t : Task) → carries self.old.pass ≡ Some t → MayServe self.old.blocks t.machine.image }
         requires lists { MatchOption self.old.seat ⊥ (HasLists self.old.lists) }
         ensures gate { IsPassOf gate.now self.new.pass }
         ensures same { known self.new.pass ≡ record (known self.old.pass) { seen = seen self.new.pass } }
@@ -257,7 +257,7 @@ impl<W: Watcher, C: Closer<Held<W>>> Runner<W, C> {
         ensures takes { min (self.old.pass.takes + 1) (2 ^ 64 - 1) ≤ self.new.pass.takes }
         ensures done { (t : Task) → carries self.old.pass ≡ Some t → IfOk result
             (λ turned. IsDone turned t self.old.pass.party (seen self.old.pass) (seen self.new.pass) self.new.seat) }
-        ensures blocks { MatchOption self.old.seat ⊥ (λ seat. MayServe self.new.blocks seat.image.value) }
+        ensures blocks { (t : Task) → carries self.old.pass ≡ Some t → MayServe self.new.blocks t.machine.image }
         ensures lists { OnOk result (MatchOption self.new.seat (Unit {0}) (HasLists self.new.lists)) }
         ensures failed { OnErr result (self.new.seat ≡ None) }
     {
@@ -275,5 +275,35 @@ impl<W: Watcher, C: Closer<Held<W>>> Runner<W, C> {
             &mut self.blocks,
             &mut self.lists,
         )
+    }
+
+    /// Turns until the hart has left, and the calls of its boxes between them.
+    pub fn run<R: Wait>(&mut self, rt: &R, gate: &Gate<Box<HostState<W, C>>>) -> Result<(), NoMemory>
+        requires gate { IsPassOf gate.now self.old.pass }
+        requires free { holds self.old.pass ≡ false }
+        requires order { (t : Task) → carries self.old.pass ≡ Some t
+            → MatchOption self.old.seat ⊥ (Sits t self.old.pass.party (seen self.old.pass)) }
+        requires blocks { (t : Task) → carries self.old.pass ≡ Some t → MayServe self.old.blocks t.machine.image }
+        requires lists { MatchOption self.old.seat ⊥ (HasLists self.old.lists) }
+        ensures gate { IsPassOf gate.now self.new.pass }
+        ensures same { known self.new.pass ≡ record (known self.old.pass) { seen = seen self.new.pass } }
+        ensures party { self.new.pass.party ≡ self.old.pass.party }
+        ensures left { OnOk result (HasLeftLast self.old.pass.party (seen self.new.pass)) }
+        ensures over { self.new.seat ≡ None }
+    {
+        for _ in rt.forever() {
+            let turned = self.turn(rt, gate)?;
+            if let Turned::Left = turned {
+                return Ok(());
+            }
+        }
+        unreachable!()
+    }
+
+    /// The pass, once the runner is done.
+    pub fn into_pass(self) -> Pass<Box<HostState<W, C>>>
+        ensures pass { result ≡ self.pass }
+    {
+        self.pass
     }
 }
