@@ -27,6 +27,8 @@ use Rattle.kept_order.proofs.Gone.{there_low}
 use Rattle.kept_order.proofs.Turns.{turns_keep_order}
 use Rattle.kept_order.proofs.TurnLengths.{turns_fit}
 use Rattle.kept_order.proofs.Arrivals.{arrivals_stay}
+use Rattle.host_state.specs.Rooms.{HasRooms}
+use Rattle.host_state.proofs.RoomKeeping.{step_rooms}
 use Rattle.host_state.specs.Moving.{MovesAlone}
 use Rattle.host_state.specs.State.{StateValue, IsSound, IsWithinLimits, stored_of}
 
@@ -115,6 +117,8 @@ committed s h n past journal memory services sound legal takes b =
       starts = b.starts;
       boxes = sound.boxes;
       closers = sound.closers;
+      rooms = subst (λ (xs : List Item). HasRooms (task_run s.task) xs s.rooms) (sym b.past)
+          (step_rooms (task_run s.task) h n s.past s.rooms sound.rooms);
       failed = sound.failed;
     }
 

@@ -22,14 +22,14 @@ closer_there s plugin =
     if is_installed s.registry.table plugin && not (is_closing_out (task_run s.task) plugin s.past)
     then Some (notices_of (task_run s.task) plugin s.past) else None
 
-abbrev there_if : Bool → Bool → List Notice → Option (List Notice)
+abbrev pub there_if : Bool → Bool → List Notice → Option (List Notice)
 there_if installed out notices = if installed && not out then Some notices else None
 
 turned : (out : Bool) (notices : List Notice) → (if out then None else Some notices) ≡ there_if true out notices
 turned true notices = refl
 turned false notices = refl
 
-closer_at : (run : Run) (past : List Item) (plugin : ℕ) → 1 ≤ plugin
+pub closer_at : (run : Run) (past : List Item) (plugin : ℕ) → 1 ≤ plugin
     → slice_index_or (closers_of run past) (plugin - 1) None
     ≡ there_if (is_installed (plugins run past) plugin) (is_closing_out run plugin past) (notices_of run plugin past)
 closer_at run past plugin one =

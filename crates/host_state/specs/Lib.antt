@@ -1,7 +1,9 @@
 pub mod Tables
 pub mod Moving
+pub mod Rooms
 pub mod State
 pub mod Filters
 pub mod Taking
 pub mod Asking
 pub mod Starting
+pub mod Closing

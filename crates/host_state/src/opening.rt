@@ -15,6 +15,7 @@ ghost use Rattle.host_state.specs.State.{IsWithinLimits, IsCaughtUp};
 ghost use Rattle.host_state.specs.Starting.{HasStarted};
 
 use crate::arrivals::Arrival;
+use crate::rooms::add_room;
 use crate::states::HostState;
 use crate::tasks::Task;
 use flat_model::limits::RACK_BOXES;
@@ -162,6 +163,7 @@ impl<W: Watcher, C: Closer<Held<W>>> HostState<W, C> {
         let kept = empty_row(alloc, harts)?;
         let failed = vec![in alloc; false; usize::from(harts)]?;
         Ok(HostState {
+            alloc,
             task,
             memory,
             services,
@@ -172,6 +174,7 @@ impl<W: Watcher, C: Closer<Held<W>>> HostState<W, C> {
             parked: Vec::new(alloc),
             kept,
             closers: Vec::new(alloc),
+            rooms: Vec::new(alloc),
             rack,
             failed,
             short: false,
@@ -197,6 +200,7 @@ impl<W: Watcher, C: Closer<Held<W>>> HostState<W, C> {
         self.waiting.push(row)?;
         self.parked.push(empty_row(alloc, harts)?)?;
         self.closers.push(spare_closer(&mut self.rack))?;
+        add_room(alloc, harts, &mut self.rooms)?;
         self.past = record_start(
             alloc,
             &mut self.registry,
