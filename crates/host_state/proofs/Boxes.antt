@@ -1,7 +1,7 @@
 -- The boxes of a set's acts, as they are parked one after the other.
-use Rattle.std.proofs.Common.{◌≡◌, ◌+◌, ◌<◌, ◌≤◌, ◌∷◌, [], ◌++◌, ◌∙◌, ℕ, zero, suc, Bool, true, false, List, Option, Some, None}
+use Rattle.std.proofs.Common.{◌≡◌, ◌+◌, ◌≤◌, ◌∷◌, [], ◌++◌, ◌∙◌, ℕ, zero, suc, Bool, true, List, Option, Some, None}
 use Rattle.std.proofs.Common.{refl, sym, ap, subst, arith, length, map, append_assoc, append-nil, length-append, cond}
-use Rattle.std.specs.Prelude.{slice_get, slice_index_or, option_map, option_and_then, is_some, sum_by}
+use Rattle.std.specs.Prelude.{slice_get, slice_index_or, option_map, option_and_then, is_some}
 use Rattle.std.specs.List.{cons_option, filter_map, range_with_len}
 use Rattle.std.proofs.lemmas.List.{length-map, nil_from_length}
 use Rattle.std.proofs.lemmas.List.Sums.{sum_by-cons}
@@ -13,7 +13,7 @@ use Rattle.flat_model.specs.Acts.{calls, calling}
 use Rattle.watcher_api.specs.declared.closers.Parked.{Parked}
 use Rattle.watcher_api.specs.declared.held_acts.HeldAct.{HeldAct}
 use Rattle.watcher_api.specs.declared.held_acts.HeldAct.TheVariants.{Call, Inline, Cond}
-use Rattle.watcher_api.specs.Attachment.{Attachment, called_kind, box_with, box_at}
+use Rattle.watcher_api.specs.Attachment.{Attachment, box_with}
 use Rattle.watcher_api.specs.HeldActs.{act_of, heard_of}
 use Rattle.watcher_api.specs.Heard.{Heard}
 use Rattle.run_order.specs.Sets.{boxes_back}
@@ -122,13 +122,14 @@ few_boxes h i f events (s ∷ subs) same =
     (ap is_some (ap f {x = i} {y = i + 0} (omega arith) ∙ same 0) ∙ kind_called (events (i + 0)) s.act)
     (few_boxes h (i + 1) f events subs
     (λ k. ap f {x = i + 1 + k} {y = i + suc k} (omega arith) ∙ same (suc k)
-    ∙ ap (λ (j : ℕ). option_and_then (box_with (events j)) (slice_get (map (λ s. s.act) subs) k)) {x = i + suc k} {y = i + 1 + k} (omega arith))))
+    ∙ ap (λ (j : ℕ). option_and_then (box_with (events j)) (slice_get (map (λ s. s.act) subs) k))
+    {x = i + suc k} {y = i + 1 + k} (omega arith))))
 
 pub boxes_are_few : (h : ℕ) (a : Attachment) (subs : List Sub) → a.acts ≡ map (λ s. s.act) subs → length (boxes_back h a) ≤ calling subs
 boxes_are_few h a subs acts =
     subst (λ (xs : List Act). length (back_from h xs a.heard (length xs)) ≤ calling subs) (sym acts)
     (few_boxes h 0 (box_from (map (λ s. s.act) subs) a.heard) (λ i. slice_index_or a.heard i []) subs
-    (λ k. ap (λ (j : ℕ). option_and_then (box_with (slice_index_or a.heard j [])) (slice_get (map (λ s. s.act) subs) j)) {x = 0 + k} {y = k}
-    (omega arith)
+    (λ k. ap (λ (j : ℕ). option_and_then (box_with (slice_index_or a.heard j [])) (slice_get (map (λ s. s.act) subs) j))
+    {x = 0 + k} {y = k} (omega arith)
     ∙ ap (λ (j : ℕ). option_and_then (box_with (slice_index_or a.heard j [])) (slice_get (map (λ s. s.act) subs) k)) {x = k} {y = 0 + k}
     (omega arith)))

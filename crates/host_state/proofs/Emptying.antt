@@ -1,7 +1,7 @@
 -- A row whose places are emptied one after the other, and what comes out of it.
 use Rattle.std.proofs.Common.{◌≡◌, ◌≢◌, ◌+◌, ◌*◌, ◌<◌, ◌≤◌, ◌∷◌, [], ◌++◌, ◌∙◌, ℕ, zero, suc, List, Option, Some, None}
-use Rattle.std.proofs.Common.{refl, sym, ap, subst, arith, length, map, replicate, take, drop, append_assoc, append-nil, get_or-set_same, get_or-set_other, set-set}
-use Rattle.std.proofs.Common.{vec_len, add-one}
+use Rattle.std.proofs.Common.{refl, sym, ap, subst, arith, length}
+use Rattle.std.proofs.Common.{replicate, drop, append_assoc, append-nil, get_or-set_same, get_or-set_other, set-set}
 use Rattle.std.specs.Prelude.{Vec, slice_set, slice_index_or, option_map, IfSome}
 use Rattle.std.specs.Global.{Global}
 use Rattle.std.specs.Option.{option_or, option_map_or}
@@ -12,7 +12,7 @@ use Rattle.std.proofs.lemmas.List.{length-set, length-map, length-replicate, set
 use Rattle.watcher_api.specs.Attachment.{Attachment}
 use Rattle.run_order.specs.Laws.{with_place}
 use Rattle.host_state.specs.Closing.{set_at, IsSmall, HasPlace}
-use Rattle.host_state.specs.Rooms.{Room, IsRoomFor}
+use Rattle.host_state.specs.Rooms.{Room}
 use Rattle.host_state.specs.Tables.{rows_of, row_at}
 
 module _ {A : Type 0} where
@@ -60,8 +60,8 @@ module _ {A : Type 0} where
     row_now : (now : List (List (Option A))) (row : List (Option A)) → now ≡ slice_set rows i row → slice_index_or now i [] ≡ row
     row_now now row is = ap (λ (cells : List (List (Option A))). slice_index_or cells i []) is ∙ get_or-set_same rows i row [] below
 
-    pub place_there : (k : ℕ) (now : List (List (Option A))) → now ≡ slice_set rows i (emptied k (row_at rows i)) → k < length (row_at rows i)
-        → k < length (row_at now i)
+    pub place_there : (k : ℕ) (now : List (List (Option A))) → now ≡ slice_set rows i (emptied k (row_at rows i))
+        → k < length (row_at rows i) → k < length (row_at now i)
     place_there k now is low =
         omega (
           arith,

@@ -1,5 +1,6 @@
 -- The state as a party takes a closing.
-use Rattle.std.proofs.Common.{◌≡◌, ◌&&◌, ◌+◌, ◌-◌, ◌<◌, ◌≤◌, ◌∷◌, [], ◌++◌, ◌∙◌, ℕ, zero, suc, Bool, true, false, not, List, Option, Some, None}
+use Rattle.std.proofs.Common.{◌≡◌, ◌&&◌, ◌+◌, ◌-◌, ◌<◌, ◌≤◌, ◌∷◌, [], ◌++◌, ◌∙◌}
+use Rattle.std.proofs.Common.{ℕ, zero, suc, Bool, true, false, not, List, Option, Some, None}
 use Rattle.std.proofs.Common.{refl, sym, ap, subst, arith, length, map, replicate, get_or-set_other}
 use Rattle.std.specs.Prelude.{Vec, if◌then◌else◌, slice_set, slice_index_or, option_map, is_some, IsSome, IfSome, MatchOption}
 use Rattle.std.specs.Global.{Global}
@@ -18,9 +19,8 @@ use Rattle.run_rules.specs.Heard.{set_at, last_set}
 use Rattle.run_rules.specs.Places.{Place, Nowhere, Waiting, WithHart, Parked, Out, place_of, is_waiting, is_parked, taker}
 use Rattle.run_rules.proofs.Fitting.{complete, installed_from, installed_within}
 use Rattle.run_rules.proofs.Turns.{first_true, rest_true}
-use Rattle.run_order.specs.Sets.{Notice, attachment_of, placed_at, harts_of, boxes_back, how_closed, notice_of, notices_of}
+use Rattle.run_order.specs.Sets.{Notice, attachment_of, placed_at, boxes_back, how_closed, notice_of, notices_of}
 use Rattle.run_order.specs.InOrder.{task_run}
-use Rattle.kept_order.specs.Arriving.{arrivals}
 use Rattle.kept_order.specs.Closing.{is_due, closed_set, notice_from, IsOut}
 use Rattle.kept_order.proofs.Completions.{closings_keep_order}
 use Rattle.kept_order.proofs.Notices.{gives_same, notices_agree}
@@ -29,7 +29,7 @@ use Rattle.kept_order.proofs.Tables.{table}
 use Rattle.run_order.proofs.Taking.{map_at}
 use Rattle.host_state.specs.Closing.{NoneIsDue, IsLeastDue, IsOutWith, IsLeastReady, is_ready, HasPlace, IsSmall, parked_column}
 use Rattle.host_state.specs.Closing as closing
-use Rattle.host_state.specs.Rooms.{Room, no_room, is_kept, IsRoomFor, HasRooms}
+use Rattle.host_state.specs.Rooms.{Room, no_room, is_kept, HasRooms}
 use Rattle.host_state.specs.State.{StateValue, IsSound, stored_of}
 use Rattle.host_state.specs.Tables.{rows_of, row_at}
 use Rattle.host_state.proofs.Boxes.{boxes_are_few}
@@ -172,15 +172,16 @@ not_out true notices = refl
 not_out false notices = refl
 
 -- the closing that is due, as it was found
-pub due_found : {C : Type 0} (f : C → List Notice) (was s : StateValue) → s ≡ was → IsSound s → (closers all : List (Option C)) → closers ≡ all
-    → map (option_map f) all ≡ s.closers → (found : Option ℕ)
+pub due_found : {C : Type 0} (f : C → List Notice) (was s : StateValue) → s ≡ was → IsSound s
+    → (closers all : List (Option C)) → closers ≡ all → map (option_map f) all ≡ s.closers → (found : Option ℕ)
     → MatchOption found ((p : ℕ) → 1 ≤ p → p ≤ length s.registry.table.plugins → is_ready s.registry.table closers p ≡ false)
     (IsLeastReady s.registry.table closers)
     → MatchOption found (NoneIsDue was) (IsLeastDue was)
 due_found f was s is sound closers all same shows None none =
     subst NoneIsDue is (none_due f s sound closers (ap (λ cs. map (option_map f) cs) same ∙ shows) none)
 due_found f was s is sound closers all same shows (Some plugin) least =
-    subst (λ (v : StateValue). IsLeastDue v plugin) is (least_due f s sound closers (ap (λ cs. map (option_map f) cs) same ∙ shows) plugin least)
+    subst (λ (v : StateValue). IsLeastDue v plugin) is
+    (least_due f s sound closers (ap (λ cs. map (option_map f) cs) same ∙ shows) plugin least)
 
 -- What is written into vectors, at other numbers.
 
@@ -215,7 +216,8 @@ closer_gone f closers i k left at none =
     ∙ ap (λ o. slice_set (map (option_map f) closers) k (option_map f o)) none
 
 -- `was` is the state's value, and `s` the value of its parts
-module _ (was s : StateValue) (is : s ≡ was) (sound : IsSound s) (plugin : ℕ) (due_was : is_due (task_run was.task) plugin was.past ≡ true) where
+module _ (was s : StateValue) (is : s ≡ was) (sound : IsSound s) (plugin : ℕ)
+    (due_was : is_due (task_run was.task) plugin was.past ≡ true) where
   due : is_due (task_run s.task) plugin s.past ≡ true
   due = subst (λ (v : StateValue). is_due (task_run v.task) plugin v.past ≡ true) (sym is) due_was
 
@@ -359,17 +361,18 @@ module _ (was s : StateValue) (is : s ≡ was) (sound : IsSound s) (plugin : ℕ
     pub told : (harts : ℕ) (next : Notice) → harts ≡ s.task.machine.harts → next.plugin ≡ plugin
         → next.how ≡ how_closed (plugin_of s.registry.table plugin).state
         → next.boxes ≡ flat_map (λ h. option_map_or (boxes_back h)
-            (closing.set_at f (row_at (rows_of rows) i) (row_at (rows_of parks) i) h) []) (range_with_len 0 harts)
+        (closing.set_at f (row_at (rows_of rows) i) (row_at (rows_of parks) i) h) []) (range_with_len 0 harts)
         → next.columns ≡ filter_map (λ h. option_map (parked_column h)
-            (closing.set_at f (row_at (rows_of rows) i) (row_at (rows_of parks) i) h)) (range_with_len 0 harts)
+        (closing.set_at f (row_at (rows_of rows) i) (row_at (rows_of parks) i) h)) (range_with_len 0 harts)
         → next ≡ notice_of (task_run was.task) plugin was.past
     told harts next many names hows boxes columns =
         let run = task_run s.task in
         let from = notice_from run (stored_of s) plugin in
         let sets : ℕ → Option Attachment = closing.set_at f (row_at (rows_of rows) i) (row_at (rows_of parks) i) in
         let all_boxes : next.boxes ≡ from.boxes =
-        boxes ∙ flat_same (λ h. option_map_or (boxes_back h) (sets h) []) (λ h. option_map_or (boxes_back h) (closed_set (stored_of s) plugin h) [])
-        0 harts (λ h least low. ap (λ (o : Option Attachment). option_map_or (boxes_back h) o []) (set_same h))
+        boxes ∙ flat_same (λ h. option_map_or (boxes_back h) (sets h) [])
+        (λ h. option_map_or (boxes_back h) (closed_set (stored_of s) plugin h) []) 0 harts
+        (λ h least low. ap (λ (o : Option Attachment). option_map_or (boxes_back h) o []) (set_same h))
         ∙ ap (λ (n : ℕ). flat_map (λ h. option_map_or (boxes_back h) (closed_set (stored_of s) plugin h) []) (range_with_len 0 n)) many in
         let all_columns : next.columns ≡ from.columns =
         columns ∙ gives_same (λ h. option_map (parked_column h) (sets h))
@@ -378,7 +381,8 @@ module _ (was s : StateValue) (is : s ≡ was) (sound : IsSound s) (plugin : ℕ
         ∙ ap (λ (o : Option Attachment). option_map_or (λ a. Some (parked_column h a)) o None) (set_same h))
         ∙ ap (λ (n : ℕ). filter_map (λ h. option_map_or (λ a. Some (parked_column h a)) (closed_set (stored_of s) plugin h) None)
         (range_with_len 0 n)) many in
-        notice_is next from names hows all_boxes all_columns ∙ notices_agree run s.past (stored_of s) plugin sound.order.legal sound.order.state_log sound.order.plugins sound.order.waiting
+        notice_is next from names hows all_boxes all_columns
+        ∙ notices_agree run s.past (stored_of s) plugin sound.order.legal sound.order.state_log sound.order.plugins sound.order.waiting
         sound.order.parked whole untaken
         ∙ ap (λ (v : StateValue). notice_of (task_run v.task) plugin v.past) is
 
@@ -406,7 +410,8 @@ module _ (was s : StateValue) (is : s ≡ was) (sound : IsSound s) (plugin : ℕ
       record {
         order = out.order;
         arriving = arrives
-            ∙ ap (λ (specs : List (List (Option SetSpec))). slice_set specs (plugin - 1) (replicate s.task.machine.harts None)) sound.arriving
+            ∙ ap (λ (specs : List (List (Option SetSpec))). slice_set specs (plugin - 1) (replicate s.task.machine.harts None))
+            sound.arriving
             ∙ sym out.arrivals;
         limits = sound.limits;
         memory = sound.memory;
@@ -414,8 +419,8 @@ module _ (was s : StateValue) (is : s ≡ was) (sound : IsSound s) (plugin : ℕ
         starts = sound.starts;
         rooms = subst (λ (xs : List Item). HasRooms run xs rooms) (sym items)
             (subst (HasRooms run (Took party plugin ∷ s.past)) (sym left)
-            (took_rooms run party plugin s.past s.rooms (slice_set s.rooms (plugin - 1) no_room) sound.order.legal sound.order.state_log whole
-            (length-set s.rooms (plugin - 1) no_room)
+            (took_rooms run party plugin s.past s.rooms (slice_set s.rooms (plugin - 1) no_room) sound.order.legal sound.order.state_log
+            whole (length-set s.rooms (plugin - 1) no_room)
             (λ k apart. get_or-set_other s.rooms (plugin - 1) k no_room no_room apart) sound.rooms));
         boxes = sound.boxes;
         closers = sound.closers;

@@ -1,6 +1,6 @@
 -- Each plug-in keeps its room while its set hasn't gone out.
 use Rattle.std.proofs.Common.{◌≡◌, ◌≢◌, ◌==◌, ◌&&◌, ◌+◌, ◌-◌, ◌<◌, ◌≤◌, ◌∷◌, [], ◌++◌, ◌∙◌, ℕ, zero, suc, Bool, true, false, List}
-use Rattle.std.proofs.Common.{refl, sym, ap, subst, arith, inl, inr, length, map}
+use Rattle.std.proofs.Common.{refl, sym, ap, subst, arith, inl, inr, length}
 use Rattle.std.specs.Prelude.{if◌then◌else◌, slice_set, slice_index_or}
 use Rattle.std.proofs.lemmas.Bool.{cases_Bool, false≢true}
 use Rattle.std.proofs.lemmas.Bool.Decides.{nat_tests}
@@ -9,15 +9,16 @@ use Rattle.flat_model.specs.declared.plugins.SetSpec.{SetSpec}
 use Rattle.flat_model.specs.declared.journals.Item.{Item}
 use Rattle.flat_model.specs.declared.journals.Item.TheVariants.{Step, Ordered, GaveBack, Left, Told, Got, Took}
 use Rattle.flat_model.specs.declared.journals.Order.{Order}
-use Rattle.flat_model.specs.declared.journals.Order.TheVariants.{Install, Register, Reset, Uninstall}
+use Rattle.flat_model.specs.declared.journals.Order.TheVariants.{Install}
 use Rattle.flat_model.specs.declared.journals.Origin.{Origin}
 use Rattle.flat_model.specs.declared.journals.PlugState.{PlugState}
 use Rattle.flat_model.specs.declared.journals.PlugState.TheVariants.{Live, Idle, Resetting, Leaving, Gone}
 use Rattle.flat_model.specs.Log.{steps}
-use Rattle.flat_model.specs.Registry.{Plugins, Plugin, registry, plugin_of, done_state, without_hart, is_closing, is_complete, has_left}
+use Rattle.flat_model.specs.Registry.{registry, plugin_of, done_state, without_hart, is_closing, is_complete, has_left}
 use Rattle.run_rules.specs.Guest.{Run, plugins}
 use Rattle.run_rules.specs.Legal.{Legal}
-use Rattle.run_rules.specs.Places.{Place, Nowhere, Waiting, WithHart, Parked, Out, IsStateLog, place_of, got, given_back, left, taken, fits_in, fits}
+use Rattle.run_rules.specs.Places.{Place, Nowhere, Waiting, WithHart, Parked, Out, IsStateLog}
+use Rattle.run_rules.specs.Places.{place_of, got, given_back, left, taken, fits_in, fits}
 use Rattle.run_rules.proofs.Fitting.{complete, installed_from, places_fit, number_is}
 use Rattle.kept_order.specs.Ordering.{IsWithdrawal}
 use Rattle.kept_order.proofs.Orders.{withdrawal_names, registers_none, same_long}
@@ -75,7 +76,8 @@ pub no_rooms : (run : Run) → HasRooms run [] []
 unfolding registry place_of
 no_rooms run = record { count = refl; each = λ plugin h one low is. absurd (false≢true is) }
 
-pub step_rooms : (run : Run) (h n : ℕ) (past : List Item) (rooms : List Room) → HasRooms run past rooms → HasRooms run (steps h n past) rooms
+pub step_rooms : (run : Run) (h n : ℕ) (past : List Item) (rooms : List Room) → HasRooms run past rooms
+    → HasRooms run (steps h n past) rooms
 unfolding registry place_of
 step_rooms run h zero past rooms has = has
 step_rooms run h (suc n) past rooms has =

@@ -1,6 +1,6 @@
 -- The sets of a legal log have few subscriptions, of which few call a box.
-use Rattle.std.proofs.Common.{◌≡◌, ◌+◌, ◌-◌, ◌<◌, ◌≤◌, ◌∷◌, [], ◌++◌, ◌∙◌, ℕ, zero, suc, Bool, true, false, List, Option, Some, None}
-use Rattle.std.proofs.Common.{refl, sym, ap, subst, arith, length, map}
+use Rattle.std.proofs.Common.{◌≡◌, ◌-◌, ◌≤◌, ◌∷◌, [], ◌++◌, ℕ, zero, suc, Bool, true, false, List, Option, Some, None}
+use Rattle.std.proofs.Common.{refl, arith, length, map}
 use Rattle.std.specs.Prelude.{slice_set, slice_index_or, not, is_some, if◌then◌else◌}
 use Rattle.std.proofs.lemmas.Bool.{false≢true}
 use Rattle.flat_model.specs.declared.plugins.SetSpec.{SetSpec}
@@ -10,10 +10,10 @@ use Rattle.flat_model.specs.declared.journals.Order.TheVariants.{Install, Regist
 use Rattle.flat_model.specs.declared.limits.TheConstants.{SUBS_MOST, CALLING_MOST}
 use Rattle.flat_model.specs.declared.orders.OrderRefusal.{OrderRefusal}
 use Rattle.flat_model.specs.Acts.{calling}
-use Rattle.flat_model.specs.Registry.{Plugins, Plugin, registry, plugin_of, no_plugin, with_plugin, refusal, after_order, without_hart, sets_of, is_installed}
+use Rattle.flat_model.specs.Registry.{Plugins, Plugin, registry, plugin_of, no_plugin, with_plugin, refusal, without_hart, is_installed}
 use Rattle.plug_registry.proofs.Allowed.{may_install, may_register}
 use Rattle.run_rules.specs.Guest.{Run, plugins}
-use Rattle.run_rules.specs.Heard.{no_set, set_at, last_set}
+use Rattle.run_rules.specs.Heard.{no_set, set_at}
 use Rattle.run_rules.specs.Due.{allowed}
 use Rattle.run_rules.specs.Legal.{Legal}
 use Rattle.host_state.proofs.AllowedSets.{install_attachable, register_attachable}

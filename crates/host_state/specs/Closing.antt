@@ -1,7 +1,7 @@
 -- Completions that a party may take, and what goes out to it.
 use Rattle.std.specs.Prelude.{◌≡◌, ◌<◌, ◌≤◌, ◌+◌, ◌-◌, ◌&&◌, ℕ, Bool, true, false, List, [], ◌∷◌, length, slice_index_or}
 use Rattle.std.specs.Prelude.{Option, Some, None, is_some, option_map}
-use Rattle.std.specs.Option.{option_or, option_map_or}
+use Rattle.std.specs.Option.{option_or}
 use Rattle.std.specs.List.{cons_option}
 use Rattle.flat_model.specs.declared.journals.Item.TheVariants.{Took}
 use Rattle.flat_model.specs.Registry.{Plugins, is_complete}

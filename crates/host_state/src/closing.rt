@@ -71,12 +71,7 @@ fn how_withdrawn(registry: &Registry, plugin: u8) -> How
 }
 
 /// Parks the box of an act, where it has one.
-fn park_box<W: Watcher>(
-    hart: u8,
-    sub: u8,
-    act: HeldAct<Held<W>>,
-    boxes: &mut Vec<Parked<Held<W>>>,
-)
+fn park_box<W: Watcher>(hart: u8, sub: u8, act: HeldAct<Held<W>>, boxes: &mut Vec<Parked<Held<W>>>)
     requires room { is_some (box_of act) ≡ true → vec_len boxes.old < vec_capacity boxes.old }
     ensures boxes { boxes.new.items ≡ boxes.old.items ++ cons_option (option_map (parked_box hart sub) (box_of act)) [] }
     ensures capacity { vec_capacity boxes.new ≡ vec_capacity boxes.old }
@@ -90,11 +85,7 @@ fn park_box<W: Watcher>(
 }
 
 /// Parks the boxes of a set's acts, each with the index of its subscription.
-fn park_boxes<W: Watcher>(
-    hart: u8,
-    held: Vec<HeldAct<Held<W>>>,
-    boxes: &mut Vec<Parked<Held<W>>>,
-)
+fn park_boxes<W: Watcher>(hart: u8, held: Vec<HeldAct<Held<W>>>, boxes: &mut Vec<Parked<Held<W>>>)
     requires few { length held.items ≤ 16 }
     requires room { vec_len boxes.old + length (boxes_in hart 0 held.items) ≤ vec_capacity boxes.old }
     ensures boxes { boxes.new.items ≡ boxes.old.items ++ boxes_in hart 0 held.items }

@@ -1,6 +1,5 @@
-use Rattle.std.proofs.Common.{◌≡◌, ◌+◌, ◌++◌, ◌≤◌, ◌∙◌, List, [], ap, arith, length, length-append, append-nil}
+use Rattle.std.proofs.Common.{◌∙◌, List, ap, arith, length}
 use Rattle.std.specs.Vec.Iter.{into_iter_items, into_iter_len}
-use Rattle.watcher_api.specs.declared.closers.Parked.{Parked}
 use Rattle.watcher_api.specs.declared.held_acts.HeldAct.{HeldAct}
 use Rattle.watcher_api.specs.Heard.{Heard}
 use Rattle.host_state.specs.Closing.{boxes_in}
@@ -14,7 +13,8 @@ park_box-requires g c =
     let long = long_as at.boxes.items c.args.boxes.now.items (boxes_in c.args.hart at.sub acts) (boxes_in c.args.hart 0 c.args.held.items)
     at.invariant.rest in
     record {
-      room = λ some. let next = box_next c.args.hart at.sub c.in-Some.act acts (into_iter_items c.next.new.self) c.in-Some.ensures.steps.0 some in
+      room = λ some. let next =
+          box_next c.args.hart at.sub c.in-Some.act acts (into_iter_items c.next.new.self) c.in-Some.ensures.steps.0 some in
           omega (arith, next, long, c.requires.room, at.invariant.capacity);
     }
 

@@ -1,24 +1,25 @@
-use Rattle.std.proofs.Common.{◌≡◌, ◌<◌, ◌∙◌, ℕ, [], None, ap, arith, refl, length, replicate}
+use Rattle.std.proofs.Common.{◌≡◌, ◌<◌, ◌∙◌, ℕ, None, ap, arith, length, replicate}
 use Rattle.std.specs.Prelude.{slice_set}
 use Rattle.host_state.specs.declared.arrivals.Arrival.{Arrival}
 use Rattle.run_order.specs.Sets.{boxes_back}
 use Rattle.host_state.specs.Closing.{parked_column, set_at}
 use Rattle.host_state.specs.Tables.{rows_of, row_at}
 use Rattle.host_state.specs.Rooms.{Room}
-use Rattle.host_state.proofs.Emptying.{rows_long, emptied, all_empty, place_there, stands_still, one_more, untouched, goes_out, if_small, if_room, flat_next, some_next}
+use Rattle.host_state.proofs.Emptying.{rows_long, all_empty, place_there, stands_still, one_more}
+use Rattle.host_state.proofs.Emptying.{untouched, goes_out, if_small, if_room, flat_next, some_next}
 use Rattle.host_state.proofs.closing.park_row.Goals as goal
 
 pub park_place-requires-clause-waiting_place : goal.park_place-requires-clause-waiting_place
 park_place-requires-clause-waiting_place g c =
     let rows = rows_of c.args.waiting.now in
-    place_there rows c.args.row (omega (arith, rows_long c.args.waiting.now, c.requires.waiting_row)) c.loop-hart.hart (rows_of c.loop-hart.waiting)
-    c.loop-hart.invariant.waiting (omega (arith, c.loop-hart-test.true, c.requires.waiting_width))
+    place_there rows c.args.row (omega (arith, rows_long c.args.waiting.now, c.requires.waiting_row)) c.loop-hart.hart
+    (rows_of c.loop-hart.waiting) c.loop-hart.invariant.waiting (omega (arith, c.loop-hart-test.true, c.requires.waiting_width))
 
 pub park_place-requires-clause-parked_place : goal.park_place-requires-clause-parked_place
 park_place-requires-clause-parked_place g c =
     let rows = rows_of c.args.parked.now in
-    place_there rows c.args.row (omega (arith, rows_long c.args.parked.now, c.requires.parked_row)) c.loop-hart.hart (rows_of c.loop-hart.parked)
-    c.loop-hart.invariant.parked (omega (arith, c.loop-hart-test.true, c.requires.parked_width))
+    place_there rows c.args.row (omega (arith, rows_long c.args.parked.now, c.requires.parked_row)) c.loop-hart.hart
+    (rows_of c.loop-hart.parked) c.loop-hart.invariant.parked (omega (arith, c.loop-hart-test.true, c.requires.parked_width))
 
 pub park_place-requires-clause-few : goal.park_place-requires-clause-few
 park_place-requires-clause-few g c =

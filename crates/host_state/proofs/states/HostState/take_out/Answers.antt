@@ -8,7 +8,8 @@ use Rattle.host_state.specs.State.{StateValue}
 use Rattle.host_state.specs.Tables.{rows_of}
 use Rattle.host_state.proofs.Parking.{whole}
 use Rattle.host_state.proofs.Shown.{shown}
-use Rattle.host_state.proofs.Outgoing.{number, installed, room_there, closer_below, closer_stands, closer_given, there_some, given_is, waits_below}
+use Rattle.host_state.proofs.Outgoing.{number, installed, room_there, closer_below}
+use Rattle.host_state.proofs.Outgoing.{closer_stands, closer_given, there_some, given_is, waits_below}
 use Rattle.host_state.proofs.Outgoing.{parks_below, waits_wide, parks_wide, places_for, told, took_sound, set_written, blank_written}
 use Rattle.host_state.proofs.Outgoing.{rows_written, closer_gone}
 use Rattle.host_state.proofs.states.HostState.take_out.Goals as goal
@@ -94,11 +95,11 @@ invariant_of-self g c =
     whole inside.waiting.len waits inside.waiting.items (omega arith) (omega arith) in
     took_sound c.args.self.now _ c.self.view_is c.self.invariant c.args.plugin c.requires.due c.args.party
     c.with_item-self-inside.result.items _ _ _ _ _ c.with_item-self-inside.ensures.item
-    (blank_written (λ (a : Arrival g.row.W.Denot). a.set) _ waits c.deref_mut-2.result.now inside.waiting.items row (c.args.plugin - 1) harts
-    inside.task.machine.harts all_waits c.park_row-boxes.ensures.waiting c.deref_mut-2.ensures.value c.from-row.ensures
+    (blank_written (λ (a : Arrival g.row.W.Denot). a.set) _ waits c.deref_mut-2.result.now inside.waiting.items row (c.args.plugin - 1)
+    harts inside.task.machine.harts all_waits c.park_row-boxes.ensures.waiting c.deref_mut-2.ensures.value c.from-row.ensures
     c.harts-harts.ensures.harts)
-    (blank_written (λ (a : Arrival g.row.W.Denot). a.spec) _ waits c.deref_mut-2.result.now inside.waiting.items row (c.args.plugin - 1) harts
-    inside.task.machine.harts all_waits c.park_row-boxes.ensures.waiting c.deref_mut-2.ensures.value c.from-row.ensures
+    (blank_written (λ (a : Arrival g.row.W.Denot). a.spec) _ waits c.deref_mut-2.result.now inside.waiting.items row (c.args.plugin - 1)
+    harts inside.task.machine.harts all_waits c.park_row-boxes.ensures.waiting c.deref_mut-2.ensures.value c.from-row.ensures
     c.harts-harts.ensures.harts)
     (rows_written _ parks c.deref_mut-3.result.now inside.parked.items row (c.args.plugin - 1) harts inside.task.machine.harts
     (whole inside.parked.len parks inside.parked.items (omega arith) (omega arith)) c.park_row-boxes.ensures.parked
