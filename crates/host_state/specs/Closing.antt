@@ -4,6 +4,7 @@ use Rattle.std.specs.Prelude.{Option, Some, None, is_some, option_map}
 use Rattle.std.specs.Option.{option_or}
 use Rattle.std.specs.List.{cons_option}
 use Rattle.flat_model.specs.declared.journals.Item.TheVariants.{Took}
+use Rattle.flat_model.specs.declared.limits.TheConstants.{SUBS_MOST, CALLING_MOST}
 use Rattle.flat_model.specs.Registry.{Plugins, is_complete}
 use Rattle.score_boards.specs.declared.ParkedColumn.{ParkedColumn}
 use Rattle.watcher_api.specs.declared.closers.Parked.{Parked}
@@ -74,8 +75,8 @@ set_at f waiting parked h = option_or (option_map f (slice_index_or waiting h No
 
 -- few acts, of which few call
 pub record IsSmall (a : Attachment) : Type 0 where
-  pub acts : length a.acts ≤ 16
-  pub boxes : (h : ℕ) → length (boxes_back h a) ≤ 2
+  pub acts : length a.acts ≤ SUBS_MOST
+  pub boxes : (h : ℕ) → length (boxes_back h a) ≤ CALLING_MOST
 
 -- there is room for a set with the others of its plug-in
 pub record HasPlace (harts : ℕ) (room : Room) (a : Attachment) : Type 0 where

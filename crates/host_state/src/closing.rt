@@ -5,6 +5,7 @@ ghost use Rattle.std.specs.Prelude.{slice_set, slice_index_or, vec_len, vec_capa
 ghost use Rattle.std.specs.Option.{option_map_or};
 ghost use Rattle.std.specs.List.{cons_option, flat_map, filter_map, range_with_len};
 ghost use Rattle.flat_model.specs.declared.journals.Item.TheVariants.{Told};
+ghost use Rattle.flat_model.specs.declared.limits.TheConstants.{SUBS_MOST, CALLING_MOST};
 ghost use Rattle.flat_model.specs.Registry.{plugin_of, is_installed};
 ghost use Rattle.run_rules.specs.Legal.{Legal};
 ghost use Rattle.run_rules.specs.Places.{StateRule};
@@ -86,7 +87,7 @@ fn park_box<W: Watcher>(hart: u8, sub: u8, act: HeldAct<Held<W>>, boxes: &mut Ve
 
 /// Parks the boxes of a set's acts, each with the index of its subscription.
 fn park_boxes<W: Watcher>(hart: u8, held: Vec<HeldAct<Held<W>>>, boxes: &mut Vec<Parked<Held<W>>>)
-    requires few { length held.items ≤ 16 }
+    requires few { length held.items ≤ SUBS_MOST }
     requires room { vec_len boxes.old + length (boxes_in hart 0 held.items) ≤ vec_capacity boxes.old }
     ensures boxes { boxes.new.items ≡ boxes.old.items ++ boxes_in hart 0 held.items }
     ensures capacity { vec_capacity boxes.new ≡ vec_capacity boxes.old }
@@ -105,7 +106,7 @@ fn park_set<W: Watcher>(
     boxes: &mut Vec<Parked<Held<W>>>,
     columns: &mut Vec<ParkedColumn>,
 )
-    requires few { length set.acts ≤ 16 }
+    requires few { length set.acts ≤ SUBS_MOST }
     requires room { vec_len boxes.old + length (boxes_back hart set) ≤ vec_capacity boxes.old }
     requires column_room { vec_len columns.old < vec_capacity columns.old }
     ensures boxes { boxes.new.items ≡ boxes.old.items ++ boxes_back hart set }
@@ -134,7 +135,7 @@ fn park_place<W: Watcher>(
     requires few { IfSome (set_at (λ a. a.set) (row_at (rows_of waiting.old) row) (row_at (rows_of parked.old) row) hart)
         (λ a. IsSmall a) }
     requires room { IfSome (set_at (λ a. a.set) (row_at (rows_of waiting.old) row) (row_at (rows_of parked.old) row) hart)
-        (λ a. (vec_len boxes.old + 2 ≤ vec_capacity boxes.old) × (vec_len columns.old < vec_capacity columns.old)) }
+        (λ a. (vec_len boxes.old + CALLING_MOST ≤ vec_capacity boxes.old) × (vec_len columns.old < vec_capacity columns.old)) }
     ensures waiting { rows_of waiting.new ≡ with_place (rows_of waiting.old) row hart None }
     ensures parked { rows_of parked.new ≡ with_place (rows_of parked.old) row hart None }
     ensures boxes { boxes.new.items ≡ boxes.old.items ++ option_map_or (boxes_back hart)
@@ -143,7 +144,7 @@ fn park_place<W: Watcher>(
         (set_at (λ a. a.set) (row_at (rows_of waiting.old) row) (row_at (rows_of parked.old) row) hart)) [] }
     ensures capacity { vec_capacity boxes.new ≡ vec_capacity boxes.old }
     ensures column_capacity { vec_capacity columns.new ≡ vec_capacity columns.old }
-    ensures few_boxes { vec_len boxes.new ≤ vec_len boxes.old + 2 }
+    ensures few_boxes { vec_len boxes.new ≤ vec_len boxes.old + CALLING_MOST }
     ensures few_columns { vec_len columns.new ≤ vec_len columns.old + 1 }
 {
     let place = usize::from(hart);
