@@ -1,6 +1,7 @@
 -- Each plug-in keeps its room while its set hasn't gone out.
 use Rattle.std.proofs.Common.{◌≡◌, ◌≢◌, ◌==◌, ◌&&◌, ◌+◌, ◌-◌, ◌<◌, ◌≤◌, ◌∷◌, [], ◌++◌, ◌∙◌, ℕ, zero, suc, Bool, true, false, List}
 use Rattle.std.proofs.Common.{refl, sym, ap, subst, arith, inl, inr, length}
+use Rattle.std.proofs.Common.{get_or-set_same, get_or-set_other}
 use Rattle.std.specs.Prelude.{if◌then◌else◌, slice_set, slice_index_or}
 use Rattle.std.proofs.lemmas.Bool.{cases_Bool, false≢true}
 use Rattle.std.proofs.lemmas.Bool.Decides.{nat_tests}
@@ -9,7 +10,7 @@ use Rattle.flat_model.specs.declared.plugins.SetSpec.{SetSpec}
 use Rattle.flat_model.specs.declared.journals.Item.{Item}
 use Rattle.flat_model.specs.declared.journals.Item.TheVariants.{Step, Ordered, GaveBack, Left, Told, Got, Took}
 use Rattle.flat_model.specs.declared.journals.Order.{Order}
-use Rattle.flat_model.specs.declared.journals.Order.TheVariants.{Install}
+use Rattle.flat_model.specs.declared.journals.Order.TheVariants.{Install, Register}
 use Rattle.flat_model.specs.declared.journals.Origin.{Origin}
 use Rattle.flat_model.specs.declared.journals.PlugState.{PlugState}
 use Rattle.flat_model.specs.declared.journals.PlugState.TheVariants.{Live, Idle, Resetting, Leaving, Gone}
@@ -156,6 +157,25 @@ install_rooms run origin spec past rooms room fits has =
             (subst (λ (b : Bool). Kept (if b then Waiting else place_of run plugin h past)) off is))
       ];
     }
+
+-- A plug-in that registers a set more is given room again.
+
+pub register_rooms : (run : Run) (origin : Origin) (plugin : ℕ) (spec : SetSpec) (past : List Item) (rooms : List Room) (room : Room)
+    → 1 ≤ plugin → plugin - 1 < length rooms → IsRoomFor run.harts room → HasRooms run past rooms
+    → HasRooms run (Ordered origin (Register plugin spec) ∷ past) (slice_set rooms (plugin - 1) room)
+unfolding registry place_of
+register_rooms run origin plugin spec past rooms room from within fits has = record {
+  count = length-set rooms (plugin - 1) room ∙ has.count ∙ sym (same_long (plugins run past) (Register plugin spec) tt);
+  each = λ q h one low is. elim (cases_Bool (plugin == q)) [
+    | inl own ↦
+        subst (λ (k : ℕ). IsRoomFor run.harts (slice_index_or (slice_set rooms (plugin - 1) room) (k - 1) no_room)) (number_is plugin q own)
+        (subst (IsRoomFor run.harts) (sym (get_or-set_same rooms (plugin - 1) room no_room within)) fits)
+    | inr off ↦
+        let apart : (q - 1) ≢ (plugin - 1) = grind (arith, nat_tests, off, one, from) in
+        subst (IsRoomFor run.harts) (sym (get_or-set_other rooms (plugin - 1) (q - 1) room no_room apart))
+        (has.each q h one low (subst (λ (b : Bool). Kept (if b then Waiting else place_of run q h past)) off is))
+  ];
+}
 
 -- A closing takes the room of its plug-in.
 
