@@ -89,7 +89,7 @@ heard_seated t h past hart sets filters told after asked turned heard =
       quiet = λ parked. absurd (false≢true (sym turned.awake ∙ parked));
     })
 
-some_task : (o : Option Task) → IsSome o → (t : Task) × (o ≡ Some t)
+pub some_task : (o : Option Task) → IsSome o → (t : Task) × (o ≡ Some t)
 some_task None some = absurd (false≢true some)
 some_task (Some t) some = (t, refl)
 
