@@ -182,6 +182,7 @@ module _ {W : Type 0} where
       record {
         gone = regone h seat.no seen now (λ taken. IsStillPart holds.GaveBack t taken now seat (Some new)) (IsTurned Went t h now) sits.number
             (λ taken is. (still_there t h now new again, is.0.1)) gone;
+        waits = λ e. absurd cc;
         placed = again;
       }
   still_done holds.Waits None seat t h seen now sits gone = absurd gone.what
@@ -190,11 +191,14 @@ module _ {W : Type 0} where
       record {
         gone = regone h seat.no seen now (λ taken. IsStillPart holds.Waits t taken now seat (Some new)) (IsTurned Waited t h now) sits.number
             (λ taken is. (still_there t h now new again, subst (λ (k : ℕ). GoesOn (IsGotBy k) taken now) again.number is.0.1)) gone;
+        waits = λ e. ap (λ (k : ℕ). (hart_of t.machine t.mode seen k).parked) (sym sits.number)
+            ∙ ap (λ (x : HartState). x.parked) (sym sits.seated.order.hart) ∙ gone.what.0.2;
         placed = again;
       }
   still_done holds.Leaves place seat t h seen now sits gone = record {
     gone = regone h seat.no seen now (λ taken. IsStillPart holds.Leaves t taken now seat place) (IsTurned turns.Left t h now) sits.number
         (λ taken is. subst (λ (k : ℕ). HasLeftThen k taken now) sits.number is.1) gone;
+    waits = λ e. absurd cc;
     placed = gone.what.0;
   }
 

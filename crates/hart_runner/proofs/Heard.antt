@@ -140,6 +140,7 @@ module _ {W : Type 0} where
       record {
         gone = regone h old.no seen now (λ taken. IsPart holds.Turned t taken now block old (Some new)) (IsTurned Went t h now) sits.number
             (λ taken is. (ap (λ (k : ℕ). is_there (task_run t) k now) (sym number) ∙ again.seated.there, is.0.1)) gone;
+        waits = λ e. absurd cc;
         placed = again;
       }
 
