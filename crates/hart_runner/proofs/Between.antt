@@ -1,10 +1,9 @@
 -- From what a runner knows between its holds to what it needs in a hold, and back.
-use Rattle.std.proofs.Common.{◌≡◌, ◌≢◌, ◌==◌, ◌++◌, ◌∷◌, [], ◌∙◌, ℕ, Bool, true, false, List, Option, Some, None, Result, Ok, Err}
+use Rattle.std.proofs.Common.{◌≡◌, ◌≢◌, ◌∷◌, [], ◌∙◌, ℕ, true, false, List, Option, Some, None, Result, Ok, Err}
 use Rattle.std.proofs.Common.{refl, sym, ap, subst, ne_eqb, arith, All}
 use Rattle.std.specs.Prelude.{IsSome, IfOk, MatchOption, slice_index_or}
 use Rattle.std.proofs.lemmas.Bool.{false≢true}
 use Rattle.std.proofs.lemmas.List.Elements.{All-head, All-tail}
-use Rattle.std.proofs.lemmas.Option.{same_Some}
 use Rattle.flat_model.specs.declared.plugins.Ask.{Ask}
 use Rattle.flat_model.specs.declared.plugins.SetSpec.{SetSpec}
 use Rattle.flat_model.specs.declared.journals.Item.{Item}
@@ -15,8 +14,8 @@ use Rattle.block_finder.specs.Block.{Stretch, IsBlock}
 use Rattle.host_state.specs.Moving.{IsPrivateTurn}
 use Rattle.hart_runner.specs.declared.going_ahead.Ahead.{Ahead}
 use Rattle.hart_runner.specs.Lists.{IsList}
-use Rattle.flat_model.specs.World.{HartState, Start}
-use Rattle.flat_model.specs.Worlds.{world, hart_of}
+use Rattle.flat_model.specs.World.{HartState}
+use Rattle.flat_model.specs.Worlds.{hart_of}
 use Rattle.baton_gate.specs.Logs.{GoesOn}
 use Rattle.watcher_api.specs.Attachment.{Attachment}
 use Rattle.run_rules.specs.Laws.{AreOfOthers}
@@ -170,7 +169,6 @@ module _ {W : Type 0} where
 
   still_there : (t : Task) (h : ℕ) (now : List Item) (seat : Seat W) → Sits t h now seat → is_there (task_run t) h now ≡ true
   still_there t h now seat sits = ap (λ (k : ℕ). is_there (task_run t) k now) (sym sits.number) ∙ sits.seated.there
-
 
   pub still_done : (hold : Hold) (place : Option (Seat W)) (seat : Seat W) (t : Task) (h : ℕ) (seen now : List Item)
       → Sits t h seen seat → HasGone seat.no seen now (λ taken. IsStillPart hold t taken now seat place)

@@ -1,5 +1,5 @@
 -- A state into which a hart has entered: its asks, its Backs and the sets that it took stand in the log.
-use Rattle.std.proofs.Common.{◌≡◌, ◌&&◌, ◌+◌, ◌-◌, ◌<◌, ◌≤◌, ◌++◌, ◌∙◌, ℕ, zero, suc, Bool, true, false, List, None}
+use Rattle.std.proofs.Common.{◌≡◌, ◌+◌, ◌-◌, ◌<◌, ◌≤◌, ◌∙◌, ℕ, zero, suc, true, false, List, None}
 use Rattle.std.proofs.Common.{refl, sym, ap, subst, arith, inl, inr, length, nat_le}
 use Rattle.std.specs.Prelude.{slice_index_or, replicate}
 use Rattle.std.proofs.lemmas.Bool.{cases_Bool, false≢true, ltb-true, leb-true, leb-false}
@@ -15,7 +15,7 @@ use Rattle.flat_model.specs.Log.{party, giver, journaled, total_steps}
 use Rattle.flat_model.specs.Registry.{Plugins, Plugin, plugin_of}
 use Rattle.flat_model.specs.World.{HartState}
 use Rattle.flat_model.specs.Worlds.{world}
-use Rattle.rv_exec.specs.Sharing.{ServicesState, HasRoom}
+use Rattle.rv_exec.specs.Sharing.{HasRoom}
 use Rattle.baton_gate.specs.Logs.{GoesOn}
 use Rattle.baton_gate.proofs.LogLemmas.{goes_nowhere, goes_on, goes_from}
 use Rattle.watcher_api.specs.Acting.{ask_of}

@@ -1,14 +1,13 @@
 -- A hart whose boxes have heard its Turn is in order again.
-use Rattle.std.proofs.Common.{◌≡◌, ◌&&◌, ◌<◌, ◌≤◌, ◌∷◌, ◌∙◌, ℕ, zero, suc, Bool, true, false, List, Option, Some, None, Result, Ok, Err}
-use Rattle.std.proofs.Common.{refl, sym, ap, subst, arith, All}
-use Rattle.std.specs.Prelude.{IsSome, IfOk, OnOk, MatchOption}
+use Rattle.std.proofs.Common.{◌≡◌, ◌<◌, ◌≤◌, ◌∙◌, ℕ, zero, suc, List, Option, Some, None, Result, Ok}
+use Rattle.std.proofs.Common.{refl, sym, ap, subst}
+use Rattle.std.specs.Prelude.{IsSome, IfOk, MatchOption}
 use Rattle.std.proofs.lemmas.Bool.{false≢true}
 use Rattle.flat_model.specs.declared.events.Event.{Event}
 use Rattle.flat_model.specs.declared.plugins.Ask.{Ask}
 use Rattle.flat_model.specs.declared.plugins.Ask.TheVariants.{Stay}
 use Rattle.flat_model.specs.declared.plugins.SetSpec.{SetSpec}
 use Rattle.flat_model.specs.declared.journals.Item.{Item}
-use Rattle.flat_model.specs.declared.journals.Item.TheVariants.{Step}
 use Rattle.flat_model.specs.declared.refusals.NoMemory.{NoMemory}
 use Rattle.flat_model.specs.Image.{Program}
 use Rattle.flat_model.specs.Log.{steps}
@@ -23,8 +22,7 @@ use Rattle.watcher_api.specs.Acting.{acts_of, ask_of, walks_of, IsAbsent}
 use Rattle.watcher_api.specs.Attachment.{Attachment}
 use Rattle.instr_lists.specs.declared.kept_lists.KeptList.{KeptList}
 use Rattle.instr_lists.specs.Delivery.{acts_with, no_asks, each_walks}
-use Rattle.instr_lists.specs.Sorts.{LiesIn}
-use Rattle.run_rules.specs.Guest.{Run, plugins}
+use Rattle.run_rules.specs.Guest.{Run}
 use Rattle.run_rules.specs.Legal.{Legal, is_there}
 use Rattle.run_rules.specs.Places.{IsStateLog, is_with_hart}
 use Rattle.run_order.specs.Sets.{sets_for}
@@ -39,9 +37,9 @@ use Rattle.hart_runner.specs.declared.runners.Turned.TheVariants.{Went}
 use Rattle.hart_runner.specs.declared.seats.Seat.{Seat}
 use Rattle.hart_runner.specs.Holds.{HasTurned}
 use Rattle.hart_runner.specs.Lists.{AreLists}
-use Rattle.hart_runner.specs.Parts.{IsPart, IsStillPart, KeepsLists}
-use Rattle.hart_runner.specs.Seats.{IsSeated, HasWritten}
-use Rattle.hart_runner.specs.Turns.{HasGone, HasHeard, HasLists, IsAhead, IsAt, IsDone, IsTurned, MayHear, Sits, turned_of}
+use Rattle.hart_runner.specs.Parts.{IsPart, IsStillPart}
+use Rattle.hart_runner.specs.Seats.{IsSeated}
+use Rattle.hart_runner.specs.Turns.{HasGone, HasHeard, HasLists, IsAt, IsDone, IsTurned, MayHear, Sits, turned_of}
 use Rattle.hart_runner.proofs.Between.{lists_again, regone, still_done, still_lists}
 
 same_there : (run : Run) (h n : ℕ) (past : List Item) → is_there run h (steps h n past) ≡ is_there run h past

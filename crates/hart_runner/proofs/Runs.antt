@@ -1,5 +1,5 @@
 -- Turns one after the other.
-use Rattle.std.proofs.Common.{◌≡◌, ◌∙◌, ℕ, false, true, List, Option, Some, None, Result, Ok, Err, refl, sym, subst, ap}
+use Rattle.std.proofs.Common.{◌≡◌, ◌∙◌, ℕ, List, Option, Some, None, Result, Ok, refl, sym, subst, ap}
 use Rattle.std.specs.Prelude.{IsSome, IfOk, MatchOption}
 use Rattle.flat_model.specs.declared.journals.Item.{Item}
 use Rattle.flat_model.specs.declared.refusals.NoMemory.{NoMemory}
@@ -35,8 +35,7 @@ module _ {W : Type 0} where
   has_left_last o r turned h k seen now place some number done is left =
       let task = some_task o some in
       let did : IsDone Left task.0 h seen now place =
-      subst (λ (x : Turned). IsDone x task.0 h seen now place) left (done_at o r turned h seen now place done is task.0 task.1) in
-      (
+      subst (λ (x : Turned). IsDone x task.0 h seen now place) left (done_at o r turned h seen now place done is task.0 task.1) in (
         subst (λ (n : ℕ). HasLeftLast n now) (sym number) (record { before = did.gone.what.before; last = did.gone.what.last }),
         did.placed,
       )

@@ -1,5 +1,5 @@
 -- A plan without a script wants nothing more once its installs stand.
-use Rattle.std.proofs.Common.{◌≡◌, ◌∷◌, [], ◌∙◌, ℕ, zero, suc, List, Option, Some, None, refl, sym, ap}
+use Rattle.std.proofs.Common.{◌≡◌, [], ◌∙◌, ℕ, zero, suc, List, Option, Some, None, refl, ap}
 use Rattle.std.specs.Prelude.{slice_get, option_map}
 use Rattle.std.specs.Option.{option_or}
 use Rattle.flat_model.specs.declared.plugins.SetSpec.{SetSpec}

@@ -1,5 +1,5 @@
 -- What a hart's part of a hold makes of its seat.
-use Rattle.std.specs.Prelude.{◌≡◌, ◌<◌, ◌≤◌, ℕ, true, false, List, ◌∷◌, [], None, IsSome, Option, MatchOption, All, replicate}
+use Rattle.std.specs.Prelude.{◌≡◌, ◌<◌, ◌≤◌, ℕ, true, false, List, ◌∷◌, None, IsSome, Option, MatchOption, All, replicate}
 use Rattle.flat_model.specs.declared.plugins.Ask.TheVariants.{Stay}
 use Rattle.flat_model.specs.declared.journals.Item.{Item}
 use Rattle.flat_model.specs.declared.journals.Item.TheVariants.{Left}

@@ -1,11 +1,11 @@
 -- What a hart's runner knows between its holds, in a hold, and once its part of a hold is done.
-use Rattle.std.specs.Prelude.{◌≡◌, ◌<◌, ◌≤◌, ◌+◌, ◌%◌, ◌^◌, ℕ, true, false, List, None, length, replicate}
+use Rattle.std.specs.Prelude.{◌≡◌, ◌<◌, ◌≤◌, ℕ, true, false, List, None, length, replicate}
 use Rattle.flat_model.specs.declared.plugins.Ask.{Ask}
 use Rattle.flat_model.specs.declared.plugins.Ask.TheVariants.{Stay}
 use Rattle.flat_model.specs.declared.plugins.SetSpec.{SetSpec}
 use Rattle.flat_model.specs.declared.journals.Item.{Item}
 use Rattle.flat_model.specs.Log.{party, journaled, total_steps}
-use Rattle.flat_model.specs.Registry.{plugin_of, has_left}
+use Rattle.flat_model.specs.Registry.{plugin_of}
 use Rattle.flat_model.specs.World.{HartState}
 use Rattle.flat_model.specs.Worlds.{world, hart_of}
 use Rattle.baton_gate.specs.Logs.{GoesOn}
@@ -18,7 +18,7 @@ use Rattle.run_rules.specs.Due.{wanted}
 use Rattle.run_rules.specs.Legal.{is_there, owes_any, asks_nothing}
 use Rattle.run_rules.specs.Places.{is_with_hart, takes_all}
 use Rattle.run_order.specs.Sets.{sets_for}
-use Rattle.run_order.specs.InOrder.{Task, Running, RunnerInOrder, task_run}
+use Rattle.run_order.specs.InOrder.{Task, RunnerInOrder, task_run}
 use Rattle.kept_order.specs.Hearing.{specs_for}
 use Rattle.host_state.specs.State.{StateValue}
 

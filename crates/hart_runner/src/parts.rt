@@ -24,7 +24,10 @@ fn leave<W: Watcher, C: Closer<Held<W>>>(state: &mut HostState<W, C>, seat: Seat
     ensures task { state.new.task ≡ state.old.task }
 {
     let Seat {
-        no, hart, attached, ..
+        no,
+        hart,
+        attached,
+        ..
     } = seat;
     state.leave(no, hart, attached);
 }

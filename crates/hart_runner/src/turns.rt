@@ -278,7 +278,11 @@ impl<W: Watcher, C: Closer<Held<W>>> Runner<W, C> {
     }
 
     /// Turns until the hart has left, and the calls of its boxes between them.
-    pub fn run<R: Wait>(&mut self, rt: &R, gate: &Gate<Box<HostState<W, C>>>) -> Result<(), NoMemory>
+    pub fn run<R: Wait>(
+        &mut self,
+        rt: &R,
+        gate: &Gate<Box<HostState<W, C>>>,
+    ) -> Result<(), NoMemory>
         requires gate { IsPassOf gate.now self.old.pass }
         requires free { holds self.old.pass ≡ false }
         requires order { (t : Task) → carries self.old.pass ≡ Some t

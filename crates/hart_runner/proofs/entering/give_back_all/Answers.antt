@@ -1,4 +1,4 @@
-use Rattle.std.proofs.Common.{◌≡◌, arith}
+use Rattle.std.proofs.Common.{arith}
 use Rattle.hart_runner.proofs.GivingBacks.{one_more, all_returned, none_more, written_so_far}
 use Rattle.hart_runner.proofs.entering.give_back_all.Goals as goal
 

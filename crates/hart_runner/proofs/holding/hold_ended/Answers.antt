@@ -7,8 +7,7 @@ use Rattle.hart_runner.proofs.holding.hold_ended.Goals as goal
 pub returns-then-gave_back-clause-held : goal.returns-then-gave_back-clause-held
 returns-then-gave_back-clause-held g c =
     let is = c.in_ok-gave_back.ensures in
-    let hart = ap (λ s. s.hart) is.seat in
-    (
+    let hart = ap (λ s. s.hart) is.seat in (
       ended_seated c.enter.new.seat.no c.args.state.now c.enter.new.state _ _ c.enter.new.seat.hart _ is.entered is.task
           (same_hart c.args.state.now.task c.args.state.now.past c.args.seat.now.no c.enter.new.seat.no c.args.seat.now.hart _
           (ap (λ s. s.no) is.seat) hart (c.requires.back.hart c.requires.awake))

@@ -1,4 +1,4 @@
-use Rattle.std.proofs.Common.{◌≡◌, ◌<◌, ◌∙◌, ap, sym, subst, arith}
+use Rattle.std.proofs.Common.{◌∙◌, ap, sym}
 use Rattle.flat_model.specs.World.{HartState}
 use Rattle.hart_runner.proofs.Held.{over_leaves, parked_seated, deserted_leaves}
 use Rattle.hart_runner.proofs.holding.hold_parked.Goals as goal
@@ -7,8 +7,7 @@ pub returns-then-gave_back-clause-held : goal.returns-then-gave_back-clause-held
 returns-then-gave_back-clause-held g c =
     let is = c.in_ok-gave_back.ensures in
     let start = ap (λ s. s.hart) is.seat in
-    let did = c.adopt-woken.ensures in
-    (
+    let did = c.adopt-woken.ensures in (
       parked_seated c.enter_parked.new.seat.no c.args.state.now c.enter_parked.new.state _ _ c.args.seat.now.hart c.adopt-woken.new.hart _
           c.adopt-woken.result is.entered is.task did.hart did.woken (λ off. did.asleep off ∙ start) c.requires.begins c.requires.below
           (ap (λ s. s.asks.first) is.seat ∙ c.requires.quiet),
@@ -34,8 +33,7 @@ pub returns-clause-held : goal.returns-clause-held
 returns-clause-held g c =
     let is = c.in_ok-gave_back.ensures in
     let start = ap (λ s. s.hart) is.seat in
-    let did = c.adopt-woken.ensures in
-    (
+    let did = c.adopt-woken.ensures in (
       parked_seated c.enter_parked.new.seat.no c.args.state.now c.enter_parked.new.state _ _ c.args.seat.now.hart c.adopt-woken.new.hart _
           c.adopt-woken.result is.entered is.task did.hart did.woken (λ off. did.asleep off ∙ start) c.requires.begins c.requires.below
           (ap (λ s. s.asks.first) is.seat ∙ c.requires.quiet),

@@ -1,7 +1,5 @@
-use Rattle.std.proofs.Common.{◌≡◌, ◌<◌, ◌%◌, ◌^◌, ◌∙◌, ap, sym, subst, arith}
-use Rattle.std.specs.Prelude.{is_some}
+use Rattle.std.proofs.Common.{◌<◌, ◌%◌, ◌^◌, ◌∙◌, ap, sym, subst, arith}
 use Rattle.flat_model.specs.World.{HartState, IsHart}
-use Rattle.flat_model.specs.Worlds.{hart_of}
 use Rattle.host_state.specs.State.{StateValue}
 use Rattle.hart_runner.proofs.Held.{IsCommitted, entered_hart, same_hart, starts_so, turned, turned_hold, running_seated, over_leaves}
 use Rattle.hart_runner.proofs.holding.hold_running.Given.{Over}
@@ -54,10 +52,9 @@ returns-then-is_none-clause-hold g c =
 pub returns-then-gave_back-clause-held : goal.returns-then-gave_back-clause-held
 returns-then-gave_back-clause-held g c =
     let is = c.in_ok-gave_back.ensures in
-    let hart = ap (λ s. s.hart) is.seat in
-    (
+    let hart = ap (λ s. s.hart) is.seat in (
       running_seated c.enter.new.seat.no c.args.state.now c.enter.new.state _ _ c.enter.new.seat.hart _ is.entered is.task (same_hart c.args.state.now.task c.args.state.now.past c.args.seat.now.no c.enter.new.seat.no c.args.seat.now.hart c.enter.new.seat.hart
-    (ap (λ s. s.no) is.seat) (ap (λ s. s.hart) is.seat) (c.requires.back.hart c.requires.awake))
+          (ap (λ s. s.no) is.seat) (ap (λ s. s.hart) is.seat) (c.requires.back.hart c.requires.awake))
           (ap (λ (x : HartState). x.since) hart ∙ c.requires.begins)
           (subst (λ (x : HartState). x.steps < c.args.state.now.task.machine.limit) (sym hart) c.requires.below) is.asks,
       is.wrote c.if-gave_back.true,
