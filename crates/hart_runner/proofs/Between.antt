@@ -178,7 +178,8 @@ module _ {W : Type 0} where
   still_done holds.GaveBack (Some new) seat t h seen now sits gone =
       let again : Sits t h now new = sits_again t h seen now seat new sits gone.what.1 gone.what.0.0 in
       record {
-        gone = regone h seat.no seen now (λ taken. IsStillPart holds.GaveBack t taken now seat (Some new)) (IsTurned Went t h now) sits.number
+        gone = regone h seat.no seen now (λ taken. IsStillPart holds.GaveBack t taken now seat (Some new)) (IsTurned Went t h now)
+            sits.number
             (λ taken is. (still_there t h now new again, is.0.1)) gone;
         waits = λ e. absurd cc;
         placed = again;
@@ -187,7 +188,8 @@ module _ {W : Type 0} where
   still_done holds.Waits (Some new) seat t h seen now sits gone =
       let again : Sits t h now new = sits_again t h seen now seat new sits gone.what.1 gone.what.0.0 in
       record {
-        gone = regone h seat.no seen now (λ taken. IsStillPart holds.Waits t taken now seat (Some new)) (IsTurned Waited t h now) sits.number
+        gone = regone h seat.no seen now (λ taken. IsStillPart holds.Waits t taken now seat (Some new)) (IsTurned Waited t h now)
+            sits.number
             (λ taken is. (still_there t h now new again, subst (λ (k : ℕ). GoesOn (IsGotBy k) taken now) again.number is.0.1)) gone;
         waits = λ e. ap (λ (k : ℕ). (hart_of t.machine t.mode seen k).parked) (sym sits.number)
             ∙ ap (λ (x : HartState). x.parked) (sym sits.seated.order.hart) ∙ gone.what.0.2;
@@ -208,7 +210,8 @@ module _ {W : Type 0} where
   done_by None now_place r hold t h seen now is sits gone = absurd sits
   done_by (Some seat) now_place r hold t h seen now is sits gone =
       still_done hold now_place seat t h seen now sits
-      (subst (λ (x : Result Hold NoMemory). IfOk x (λ x. HasGone seat.no seen now (λ taken. IsStillPart x t taken now seat now_place))) is gone)
+      (subst (λ (x : Result Hold NoMemory). IfOk x (λ x. HasGone seat.no seen now (λ taken. IsStillPart x t taken now seat now_place))) is
+      gone)
 
   -- lists of the seat's sets
   pub lists_again : (kept : List KeptList) (old new : Seat W) → KeepsLists old new → HasLists kept old → HasLists kept new
@@ -241,7 +244,8 @@ module _ {W : Type 0} where
   lists_by None now_place r hold o seen now is some gone kept are = absurd are
   lists_by (Some seat) now_place r hold None seen now is some gone kept are = absurd (false≢true some)
   lists_by (Some seat) now_place r hold (Some t) seen now is some gone kept are =
-      let done = subst (λ (x : Result Hold NoMemory). IfOk x (λ x. HasGone seat.no seen now (λ taken. IsStillPart x t taken now seat now_place)))
+      let done = subst (λ (x : Result Hold NoMemory). IfOk x (λ x. HasGone seat.no seen now (λ taken. IsStillPart x t taken now seat
+      now_place)))
       is (gone t refl) in
       still_lists hold now_place seat t done.taken now kept done.what are
 

@@ -167,7 +167,8 @@ module _ {W : Type 0} where
 
   pub sits_at : (o : Option Task) (h : ℕ) (seen : List Item) (place : Option (Seat W)) (seat mid : Seat W) → place ≡ Some seat
       → SitAll o h seen place → Ahead seat mid → mid.raw.kept ≡ seat.raw.kept → (t : Task) → o ≡ Some t → Sits t h seen mid
-  sits_at o h seen place seat mid is all same kept t e = sits_ahead t h seen seat mid same kept (at_seat (Sits t h seen) place seat is (all t e))
+  sits_at o h seen place seat mid is all same kept t e = sits_ahead t h seen seat mid same kept (at_seat (Sits t h seen) place seat is
+      (all t e))
 
   pub seat_sits : (o : Option Task) (h : ℕ) (seen : List Item) (place : Option (Seat W)) (seat : Seat W) → place ≡ Some seat
       → SitAll o h seen place → (t : Task) → o ≡ Some t → Sits t h seen seat
@@ -244,7 +245,8 @@ module _ {W : Type 0} where
       → (t : Task) → o ≡ Some t → IsDone (turned_of hold) t h seen now place
   rest_done o r hold h seen now block mid place is other all gone t e =
       still_done hold place mid t h seen now (all t e)
-      (regone mid.no mid.no seen now (λ taken. IsPart hold t taken now block mid place) (λ taken. IsStillPart hold t taken now mid place) refl
+      (regone mid.no mid.no seen now (λ taken. IsPart hold t taken now block mid place) (λ taken. IsStillPart hold t taken now mid place)
+      refl
       (λ taken part. part_still hold t taken now block mid place other part) (gone_at o r hold seen now block mid place is gone t e))
 
   pub rest_lists : (o : Option Task) (r : Result Hold NoMemory) (hold : Hold) (seen now : List Item) (block : Stretch)

@@ -220,7 +220,8 @@ pub turned_hold : (h n : ℕ) (first old new : StateValue) (sets : List Attachme
     → first.task.plan.script ≡ [] → IsHold h first new
 turned_hold h n first old new sets filters before after told entered is task plain = record {
   own = goes_on (λ i. party i ≡ h) (λ i. party i ≡ h) (λ i. party i ≡ h) first.past old.past new.past entered.own
-      (goes_same (λ i. party i ≡ h) old.past (steps h n old.past) new.past (own_steps h n old.past) (sym is.steps)) (λ i own. own) (λ i own. own);
+      (goes_same (λ i. party i ≡ h) old.past (steps h n old.past) new.past (own_steps h n old.past) (sym is.steps)) (λ i own. own) (λ i
+      own. own);
   few = omega (arith, entered.total, more_steps h n old.past, ap total_steps is.steps, is.most);
   caught_up = inr (ap (λ (t : Task). wanted (task_run t) new.past) is.task
       ∙ subst (λ (past : List Item). wanted (task_run old.task) past ≡ None) (sym is.steps)

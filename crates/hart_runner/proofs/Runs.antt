@@ -47,7 +47,8 @@ module _ {W : Type 0} where
   still_placed Waited t h seen now place other done = done.placed
 
   -- or sits in order again
-  pub sits_on : (o p : Option Task) (r : Result Turned NoMemory) (turned : Turned) (h k : ℕ) (seen now : List Item) (place : Option (Seat W))
+  pub sits_on : (o p : Option Task) (r : Result Turned NoMemory) (turned : Turned) (h k : ℕ) (seen now : List Item) (place : Option (Seat
+      W))
       → p ≡ o → k ≡ h → Done o r h seen now place → r ≡ Ok turned → (turned ≡ Left → ⊥) → (t : Task) → p ≡ Some t
       → MatchOption place ⊥ (Sits t k now)
   sits_on o p r turned h k seen now place same number done is other t e =

@@ -52,17 +52,18 @@ abbrev pub HasWritten : List Item → List Item → Type 0
 HasWritten seen past = length (journaled seen) < length (journaled past)
 
 -- in a hold, once asks, Backs and arrived sets are dealt with
-pub record HasEntered (no : ℕ) (seen : List Item) (s : StateValue) (attached : List Attachment) (filters : List (ℕ × SetSpec)) : Type 0 where
-  pub own : Own no seen s.past
-  pub total : total_steps s.past ≡ total_steps seen
-  pub there : is_there (task_run s.task) no s.past ≡ true
-  pub owes_none : owes_any (task_run s.task) no s.past ≡ false
-  pub asks_nothing : asks_nothing (task_run s.task) no s.past ≡ true
-  pub caught_up : wanted (task_run s.task) s.past ≡ None
-  pub takes_all : takes_all (task_run s.task) no s.past ≡ true
-  pub sets : attached ≡ sets_for is_with_hart (task_run s.task) no s.past
-  pub specs : filters ≡ specs_for (task_run s.task) no s.past
-  pub world : world s.task.machine s.task.mode s.past ≡ world s.task.machine s.task.mode seen
-  pub open_now : s.short ≡ false
-  pub room : 4 ≤ s.journal.spare
-  pub output : HasRoom s.services
+pub record HasEntered (no : ℕ) (seen : List Item) (s : StateValue) (attached : List Attachment) (filters : List (ℕ × SetSpec)) : Type 0
+  where
+    pub own : Own no seen s.past
+    pub total : total_steps s.past ≡ total_steps seen
+    pub there : is_there (task_run s.task) no s.past ≡ true
+    pub owes_none : owes_any (task_run s.task) no s.past ≡ false
+    pub asks_nothing : asks_nothing (task_run s.task) no s.past ≡ true
+    pub caught_up : wanted (task_run s.task) s.past ≡ None
+    pub takes_all : takes_all (task_run s.task) no s.past ≡ true
+    pub sets : attached ≡ sets_for is_with_hart (task_run s.task) no s.past
+    pub specs : filters ≡ specs_for (task_run s.task) no s.past
+    pub world : world s.task.machine s.task.mode s.past ≡ world s.task.machine s.task.mode seen
+    pub open_now : s.short ≡ false
+    pub room : 4 ≤ s.journal.spare
+    pub output : HasRoom s.services

@@ -59,7 +59,8 @@ pub(crate) fn take_still_part<W: Watcher, C: Closer<Held<W>>>(
     requires comes { MatchOption place.old ⊥ (ComesStill state.old) }
     requires caught_up { IsCaughtUp state.old }
     requires plain { state.old.task.plan.script ≡ [] }
-    ensures part { MatchOption place.old ⊥ (λ seat. IfOk result (λ hold. IsStillPart hold state.new.task state.old.past state.new.past seat place.new)) }
+    ensures part { MatchOption place.old ⊥ (λ seat. IfOk result
+        (λ hold. IsStillPart hold state.new.task state.old.past state.new.past seat place.new)) }
     ensures hold { MatchOption place.old ⊥ (λ seat. IsHold seat.no state.old state.new) }
 {
     let Some(seat) = place else {

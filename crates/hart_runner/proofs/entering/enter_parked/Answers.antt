@@ -16,7 +16,8 @@ returns-then-gave_back-clause-entered g c =
     let room = c.in-Ok.ensures in
     let backs = c.give_back_all-gave_back.ensures in
     let takes = c.attach-arrived.ensures in
-    entered c.args.seat.now.no c.args.state.now c.prepare.new.state c.prepare.new.state c.give_back_all-gave_back.new.state c.attach-arrived.new.self
+    entered c.args.seat.now.no c.args.state.now c.prepare.new.state c.prepare.new.state c.give_back_all-gave_back.new.state
+    c.attach-arrived.new.self
     _ _ _ _ c.prepare.ensures.rest room.room room.output (no_asks c.args.seat.now.no c.prepare.new.state)
     (record { may = backs.may; returned = backs.returned; owes_none = backs.owes_none; room = backs.room })
     (record { gots = takes.gots; rest = takes.rest; attached = takes.attached; filters = takes.specs; all = takes.all })
@@ -37,7 +38,8 @@ returns-else-arrived-clause-entered g c =
     let room = c.in-Ok.ensures in
     let backs = c.give_back_all-gave_back.ensures in
     let takes = c.attach-arrived.ensures in
-    entered c.args.seat.now.no c.args.state.now c.prepare.new.state c.prepare.new.state c.give_back_all-gave_back.new.state c.attach-arrived.new.self
+    entered c.args.seat.now.no c.args.state.now c.prepare.new.state c.prepare.new.state c.give_back_all-gave_back.new.state
+    c.attach-arrived.new.self
     _ _ _ _ c.prepare.ensures.rest room.room room.output (no_asks c.args.seat.now.no c.prepare.new.state)
     (record { may = backs.may; returned = backs.returned; owes_none = backs.owes_none; room = backs.room })
     (record { gots = takes.gots; rest = takes.rest; attached = takes.attached; filters = takes.specs; all = takes.all })
