@@ -1,18 +1,17 @@
 -- When no plug-in is being withdrawn, and when a run is whole.
-use Rattle.std.proofs.Common.{◌≡◌, ◌+◌, ◌<◌, ◌≤◌, ◌∙◌, ◌↔◌, ◌⊎◌, inl, inr, ℕ, zero, suc, Bool, true, false, List, [], ◌∷◌, length, IsTrue}
-use Rattle.std.proofs.Common.{Option, None, refl, sym, ap, subst, arith}
+use Rattle.std.proofs.Common.{◌≡◌, ◌<◌, ◌∙◌, ◌↔◌, inl, inr, ℕ, Bool, true, false, List, length, IsTrue}
+use Rattle.std.proofs.Common.{sym, ap, subst, arith}
 use Rattle.std.specs.Prelude.{slice_index_or}
-use Rattle.std.specs.List.{list_any, range_with_len}
+use Rattle.std.specs.List.{list_any}
 use Rattle.std.proofs.lemmas.Bool.{false≢true}
 use Rattle.std.proofs.lemmas.List.{get_or_default}
 use Rattle.std.proofs.lemmas.List.Folds.{list_any_none}
 use Rattle.flat_model.specs.Registry.{Plugin, Plugins, no_plugin, is_closing, has_left}
-use Rattle.run_rules.specs.Legal.{Legal, Whole}
+use Rattle.run_rules.specs.Legal.{Whole}
 use Rattle.run_rules.specs.Guest.{plugins}
-use Rattle.run_rules.specs.Due.{wanted}
-use Rattle.run_order.specs.InOrder.{InOrder, task_run}
+use Rattle.run_order.specs.InOrder.{task_run}
 use Rattle.kept_order.proofs.Ranges.{all_at, all_of}
-use Rattle.host_state.specs.State.{StateValue, stored_of, IsSound, IsCaughtUp}
+use Rattle.host_state.specs.State.{StateValue, IsSound, IsCaughtUp}
 
 pub none_closes : (xs : List Plugin) → ((k : ℕ) → k < length xs → is_closing (slice_index_or xs k no_plugin).state ≡ false)
     → list_any (λ p. is_closing p.state) xs ≡ false

@@ -13,6 +13,12 @@ pub mod Departing
 pub mod GivingBack
 pub mod Deserted
 pub mod Starting
+pub mod Telling
 pub mod WholeTurns
 pub mod Finishing
 pub mod KeptClosers
+pub mod Controlling
+pub mod KeptSets
+pub mod KeptSums
+pub mod KeptNotices
+pub mod KeptTallies

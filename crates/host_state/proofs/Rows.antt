@@ -1,20 +1,9 @@
 -- Steps of a hart in two rows, one behind the other.
-use Rattle.std.proofs.Common.{◌≡◌, ◌+◌, ◌-◌, ◌<◌, ◌≤◌, ◌++◌, ◌∙◌, ◌⊎◌, inl, inr, ℕ, zero, suc, List, [], true, None, refl, sym, ap, subst, arith}
+use Rattle.std.proofs.Common.{◌≡◌, ◌+◌, ◌++◌, ◌∙◌, ℕ, zero, suc, List, sym, ap, arith}
 use Rattle.std.proofs.Common.{append_assoc, append-nil}
-use Rattle.std.proofs.lemmas.Bool.{cases_order, cases_eq}
 use Rattle.flat_model.specs.declared.events.Event.{Event}
-use Rattle.flat_model.specs.declared.journals.Item.{Item}
-use Rattle.flat_model.specs.declared.limits.TheConstants.{BLOCK_WORDS}
-use Rattle.flat_model.specs.Log.{steps}
 use Rattle.flat_model.specs.Step.{Stepped, step_of, steps_of}
 use Rattle.flat_model.specs.World.{Machine, HartState, Shared}
-use Rattle.flat_model.specs.Worlds.{world, hart_of}
-use Rattle.flat_model.proofs.Worlds.{runs_alone}
-use Rattle.run_rules.specs.Legal.{Legal, runs}
-use Rattle.run_rules.specs.Laws.{MayTurn}
-use Rattle.run_order.specs.InOrder.{Task, task_run}
-
-
 
 suc_out : (n k : ℕ) → n + suc k ≡ suc (n + k)
 suc_out n k = omega arith
@@ -26,7 +15,7 @@ and_then a b = record { hart = b.hart; shared = b.shared; events = a.events ++ b
 pub in_a_row : (m : Machine) (h n k : ℕ) (hart : HartState) (shared : Shared)
     → steps_of m h (n + k) hart shared
     ≡ and_then (steps_of m h n hart shared)
-      (steps_of m h k (steps_of m h n hart shared).hart (steps_of m h n hart shared).shared)
+    (steps_of m h k (steps_of m h n hart shared).hart (steps_of m h n hart shared).shared)
 unfolding steps_of
 in_a_row m h n zero hart shared =
     let a = steps_of m h n hart shared in

@@ -10,6 +10,7 @@ use Rattle.flat_model.specs.declared.journals.Entry.{Entry}
 use Rattle.flat_model.specs.declared.journals.Item.{Item}
 use Rattle.flat_model.specs.declared.journals.Item.TheVariants.{Ordered}
 use Rattle.flat_model.specs.declared.journals.Order.TheVariants.{Install}
+use Rattle.flat_model.specs.declared.journals.Origin.{Origin}
 use Rattle.flat_model.specs.declared.journals.Origin.TheVariants.{Start}
 use Rattle.flat_model.specs.Acts.{calling}
 use Rattle.flat_model.specs.Log.{log, log_from, with_entry}
@@ -184,13 +185,13 @@ is_next whole s i spec given view started there allowed sound is copy =
     }
 
 -- the install stands in all that the state holds
-pub record IsStarted (spec : SetSpec) (old new : StateValue) : Type 0 where
+pub record IsStarted (origin : Origin) (spec : SetSpec) (old new : StateValue) : Type 0 where
   pub task : new.task ≡ old.task
   pub memory : new.memory ≡ old.memory
   pub services : new.services ≡ old.services
   pub table : new.registry.table ≡ after_order (Install spec) old.registry.table
-  pub journal : log new.journal.entries ≡ Ordered Start (Install spec) ∷ log old.journal.entries
-  pub past : new.past ≡ Ordered Start (Install spec) ∷ old.past
+  pub journal : log new.journal.entries ≡ Ordered origin (Install spec) ∷ log old.journal.entries
+  pub past : new.past ≡ Ordered origin (Install spec) ∷ old.past
   pub waiting : new.waiting
       ≡ old.waiting ++ replicate old.task.machine.harts (Some (opening (length old.registry.table.plugins + 1) spec)) ∷ []
   pub arriving : new.arriving ≡ old.arriving ++ replicate old.task.machine.harts (Some spec) ∷ []
@@ -212,12 +213,12 @@ stands s i spec sound next =
     next_installs_stand (task_run s.task) spec s.past sound.order.legal (ap (slice_get installs) count ∙ here)
     (ap (λ (r : Plugins). refusal r (Install spec)) (sym sound.order.plugins) ∙ next.allowed)
 
-pub started_is_sound : (old new : StateValue) (i : ℕ) (spec : SetSpec) → IsSound old → IsNext old i spec
-    → IsStarted spec old new → IsSound new
-started_is_sound old new i spec sound next s =
+-- whoever gave its order
+pub installed_is_sound : (old new : StateValue) (origin : Origin) (spec : SetSpec) → IsSound old
+    → Legal (task_run old.task) (Ordered origin (Install spec) ∷ old.past) → IsStarted origin spec old new → IsSound new
+installed_is_sound old new origin spec sound legal s =
     let run = task_run old.task in
     let harts = old.task.machine.harts in
-    let legal = stands old i spec sound next in
     let same = sym s.task in
     let harts_same : harts ≡ new.task.machine.harts = ap (λ (t : Task). t.machine.harts) same in
     let table : new.registry.table.boxes ≡ old.registry.table.boxes - old.registry.table.harts * calling spec.subs =
@@ -227,7 +228,7 @@ started_is_sound old new i spec sound next s =
     let count : length new.registry.table.plugins ≡ length old.registry.table.plugins + 1 =
     ap (λ (r : Plugins). length r.plugins) s.table ∙ length_push old.registry.table.plugins _ in
     let order : InOrder old.task (stored_of new) =
-    installs_keep_order old.task Start spec (stored_of old) (stored_of new) sound.order legal (record {
+    installs_keep_order old.task origin spec (stored_of old) (stored_of new) sound.order legal (record {
       past = s.past;
       journal = s.journal;
       shared = ap (λ (m : MemoryState). shared_of m new.services) s.memory ∙ ap (shared_of old.memory) s.services;
@@ -242,7 +243,7 @@ started_is_sound old new i spec sound next s =
     record {
       order = subst (λ (t : Task). InOrder t (stored_of new)) same order;
       arriving = s.arriving ∙ ap (λ rows. rows ++ replicate harts (Some spec) ∷ []) sound.arriving
-          ∙ sym (installs_arrive run Start spec old.past legal sound.order.state_log)
+          ∙ sym (installs_arrive run origin spec old.past legal sound.order.state_log)
           ∙ ap (arrivals run) (sym s.past) ∙ ap (λ (t : Task). arrivals (task_run t) new.past) same;
       limits = subst (λ (t : Task). IsWithinLimits t.machine) same sound.limits;
       memory = subst (λ (t : Task). IsMemoryOf t.machine.image new.memory) same memory;
@@ -252,6 +253,10 @@ started_is_sound old new i spec sound next s =
       closers = omega (arith, count, s.spare_closers, sound.closers);
       failed = ap length s.failed ∙ sound.failed ∙ harts_same;
     }
+
+pub started_is_sound : (old new : StateValue) (i : ℕ) (spec : SetSpec) → IsSound old → IsNext old i spec
+    → IsStarted Start spec old new → IsSound new
+started_is_sound old new i spec sound next s = installed_is_sound old new Start spec sound (stands old i spec sound next) s
 
 -- and one install more of the plan stands
 pub started_more : (whole old new : StateValue) (i : ℕ) (spec : SetSpec) → old ≡ whole → IsNext old i spec → new.task ≡ old.task

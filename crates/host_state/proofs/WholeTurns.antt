@@ -1,7 +1,7 @@
 -- Turns of which a hart makes the first steps by itself and the others with what is shared.
-use Rattle.std.proofs.Common.{◌≡◌, ◌==◌, ◌+◌, ◌-◌, ◌*◌, ◌^◌, ◌<◌, ◌≤◌, ◌++◌, ◌∙◌, ℕ, zero, suc, List, [], true, false, Option, Some, None}
+use Rattle.std.proofs.Common.{◌≡◌, ◌+◌, ◌-◌, ◌*◌, ◌^◌, ◌<◌, ◌≤◌, ◌∙◌, ℕ, zero, suc, List, [], true, false, Option, Some, None}
 use Rattle.std.proofs.Common.{refl, sym, ap, subst, inl, inr, arith}
-use Rattle.std.specs.Prelude.{length, IsSome}
+use Rattle.std.specs.Prelude.{IsSome}
 use Rattle.std.proofs.lemmas.Bool.{cases_order, false≢true}
 use Rattle.std.proofs.lemmas.Bool.Decides.{nat_tests}
 use Rattle.flat_model.specs.declared.events.Ending.{Ending}
@@ -24,7 +24,7 @@ use Rattle.run_rules.specs.Laws.{MayTurn}
 use Rattle.run_rules.specs.Legal.{Legal, runs, is_there}
 use Rattle.run_rules.specs.Places.{takes_all}
 use Rattle.run_rules.proofs.Turns.{turns_are_legal}
-use Rattle.run_order.specs.InOrder.{Task, task_run}
+use Rattle.run_order.specs.InOrder.{task_run}
 use Rattle.kept_order.specs.Lying.{GoesInside}
 use Rattle.kept_order.proofs.Gone.{there_low}
 use Rattle.kept_order.proofs.InBlocks.{AllInside, among_words}
@@ -89,8 +89,8 @@ touched_word : (word : Option ℕ) → word_touches_shared word ≡ true → (w 
 touched_word None touches = absurd (false≢true touches)
 touched_word (Some w) touches = (w, refl)
 
-stopped_word : (image : Program) (k : ℕ) (hart : HartState) → Stops image 512 k hart → hart.since ≡ k → hart.since < 512 → StaysInside k hart
-    → (w : ℕ) × (word_at image hart.pc ≡ Some w)
+stopped_word : (image : Program) (k : ℕ) (hart : HartState) → Stops image 512 k hart → hart.since ≡ k → hart.since < 512
+    → StaysInside k hart → (w : ℕ) × (word_at image hart.pc ≡ Some w)
 stopped_word image k hart (inl full) since small stays = absurd (omega (arith, full, since, small))
 stopped_word image k hart (inr (inl ended)) since small stays =
     absurd (false≢true (subst (λ (e : Option Ending). IsSome e) stays.running ended))

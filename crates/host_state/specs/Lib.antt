@@ -6,3 +6,5 @@ pub mod Taking
 pub mod Idling
 pub mod Asking
 pub mod Starting
+pub mod Ordering
+pub mod Registered

@@ -17,7 +17,8 @@ use Rattle.run_order.specs.InOrder.{Task, Stored, InOrder, task_run}
 use Rattle.kept_order.specs.Arriving.{arrivals}
 
 -- the run; memory and services; plug-ins and journal with their room; the log; the sets that wait, their filters, and the sets that
--- are parked, by plug-in and hart; the harts that have left; the notices of the closers that are there; the boxes and closers that no set has yet;
+-- are parked, by plug-in and hart; the harts that have left; the notices of the closers that are there; the boxes and closers that
+-- no set has yet;
 -- which harts found no memory; and whether one did, so that nothing is recorded any more
 pub record StateValue : Type 0 where
   pub task : Task

@@ -14,21 +14,22 @@ ghost use Rattle.plug_registry.specs.Installs.{start_order, refusal_at, AreAllow
 ghost use Rattle.host_state.specs.State.{IsWithinLimits, IsCaughtUp};
 ghost use Rattle.host_state.specs.Starting.{HasStarted};
 
-use crate::arrivals::Arrival;
+use crate::arrivals::{Arrival, arrivals_in, room_for_row};
+use crate::recording::{record_order, room_for_order};
 use crate::states::HostState;
 use crate::tasks::Task;
 use flat_model::limits::RACK_BOXES;
-use flat_model::{Entry, Image, Item, Mode, NoMemory, Order, Origin, Plan, SetSpec, Trace};
+use flat_model::{Image, Item, Mode, NoMemory, Order, Origin, Plan, SetSpec, Trace};
 use guest_memory::Memory;
 use plug_registry::Registry;
 use run_journal::Journal;
 use rv_exec::Services;
 use std::alloc::Global;
 use std::sync::Arc;
-use watcher_api::{AttachedSet, Closer, Held, Rack, Watcher};
+use watcher_api::{Closer, Held, Rack, Watcher};
 
 /// A place for each hart, with nothing there.
-fn empty_row<T: Drop>(alloc: Global, harts: u8) -> Result<Vec<Option<T>>, NoMemory>
+pub(crate) fn empty_row<T: Drop>(alloc: Global, harts: u8) -> Result<Vec<Option<T>>, NoMemory>
     ensures empty { IfOk result (λ row. row.items ≡ replicate harts None) }
 {
     let mut row = Vec::new(alloc);
@@ -38,31 +39,7 @@ fn empty_row<T: Drop>(alloc: Global, harts: u8) -> Result<Vec<Option<T>>, NoMemo
     Ok(row)
 }
 
-/// A set that has just been registered, on its way to a hart, with boxes of the rack.
-fn arrival<W: Watcher, C: Closer<Held<W>>>(
-    alloc: Global,
-    plugin: u8,
-    spec: &SetSpec,
-    rack: &mut Rack<W, C>,
-) -> Result<Arrival<W>, NoMemory>
-    requires number { 1 ≤ plugin }
-    requires most { plugin ≤ 8 }
-    requires subs { length spec.now.subs ≤ 16 }
-    requires entries { All (λ s. IsWithin spec.now.entries s.act) spec.now.subs }
-    requires enough { calling spec.now.subs ≤ vec_len rack.old.watchers }
-    ensures set { IfOk result (λ a. a.set ≡ opening plugin spec.now) }
-    ensures spec { IfOk result (λ a. a.spec ≡ spec.now) }
-    ensures left { OnOk result (vec_len rack.new.watchers + calling spec.now.subs ≡ vec_len rack.old.watchers) }
-    ensures closers { rack.new.closers ≡ rack.old.closers }
-{
-    let set = AttachedSet::new(alloc, plugin, spec, &mut rack.watchers)?;
-    Ok(Arrival {
-        set,
-        spec: spec.copied(alloc)?,
-    })
-}
-
-/// The same for each hart.
+/// A set that has just been registered, on its way to each hart, with boxes of the rack.
 fn arrivals<W: Watcher, C: Closer<Held<W>>>(
     alloc: Global,
     plugin: u8,
@@ -80,15 +57,12 @@ fn arrivals<W: Watcher, C: Closer<Held<W>>>(
     ensures left { OnOk result (vec_len rack.new.watchers + harts * calling spec.now.subs ≡ vec_len rack.old.watchers) }
     ensures closers { rack.new.closers ≡ rack.old.closers }
 {
-    let mut row = Vec::new(alloc);
-    for _hart in 0..harts {
-        row.push(Some(arrival(alloc, plugin, spec, rack)?))?;
-    }
-    Ok(row)
+    let room = room_for_row(alloc, spec, harts)?;
+    Ok(arrivals_in(room, plugin, spec, harts, rack))
 }
 
 /// A closer of the rack, which was given no notice.
-fn spare_closer<W: Watcher, C: Closer<Held<W>>>(rack: &mut Rack<W, C>) -> Option<C>
+pub(crate) fn spare_closer<W: Watcher, C: Closer<Held<W>>>(rack: &mut Rack<W, C>) -> Option<C>
     requires enough { 0 < vec_len rack.old.closers }
     ensures untold { option_map (λ c. C.notices c) result ≡ Some [] }
     ensures left { vec_len rack.new.closers + 1 ≡ vec_len rack.old.closers }
@@ -110,27 +84,18 @@ fn record_start(
     ensures journal { OnOk result (log journal.new.entries ≡ Ordered Start (Install spec) ∷ log journal.old.entries) }
     ensures past { IfOk result (λ now. now.items ≡ Ordered Start (Install spec) ∷ past.now.items) }
 {
-    let order = Order::Install { spec };
-    registry.reserve_for(&order)?;
-    journal.reserve(1)?;
-    let item = Item::Ordered {
-        origin: Origin::Start,
-        order: order.copied(alloc)?,
+    let order = Order::Install {
+        spec: spec.copied(alloc)?,
     };
-    let now = past.before(&item);
-    let Item::Ordered {
-        origin,
-        order: recorded,
-    } = item
-    else {
-        unreachable!()
-    };
-    journal.push(Entry::Order {
-        origin,
-        order: recorded,
-    });
-    registry.apply(order);
-    Ok(now)
+    room_for_order(registry, journal, &order)?;
+    Ok(record_order(
+        registry,
+        journal,
+        past,
+        Origin::Start,
+        order,
+        Order::Install { spec },
+    ))
 }
 
 impl Task {

@@ -1,7 +1,7 @@
 //! What is asked of the state.
 
-ghost use Rattle.std.specs.Prelude.{◌≡◌, ◌↔◌, ◌<◌, ◌≤◌, ◌*◌, true, false, IsTrue, IfOk, OnOk, OnErr, option_copied, slice_index_or, None, Some};
-ghost use Rattle.flat_model.specs.Registry.{sets_of, has_left};
+ghost use Rattle.std.specs.Prelude.{◌≡◌, ◌≤◌, OnOk, option_copied, slice_index_or, None};
+ghost use Rattle.flat_model.specs.Registry.{sets_of};
 ghost use Rattle.run_order.specs.InOrder.{InOrder};
 ghost use Rattle.rv_exec.specs.Sharing.{HasRoom, starts_of};
 ghost use Rattle.host_state.specs.State.{stored_of, IsWithinLimits};

@@ -125,7 +125,8 @@ impl<W: Watcher, C: Closer<Held<W>>> HostState<W, C> {
         ensures going_on { hart.new.ending ≡ None → self.new.services.group ≡ None }
         ensures kept { raw.new.kept ≡ raw.old.kept }
     {
-        let _pc = before.pc;
+        // The harts are sound.
+        let _start = before.pc;
         let _since = hart.since;
         let rest = rest_of_block(
             no,

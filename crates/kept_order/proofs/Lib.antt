@@ -29,3 +29,5 @@ pub mod TellsInside
 pub mod InBlocks
 pub mod Wakings
 pub mod BackChanges
+pub mod Standing
+pub mod Tellings

@@ -27,7 +27,8 @@ notice_from run s plugin = record {
   plugin = plugin;
   how = how_closed (plugin_of s.plugins plugin).state;
   boxes = flat_map (λ h. option_map_or (boxes_back h) (closed_set s plugin h) []) (harts_of run);
-  columns = filter_map (λ h. option_map_or (λ a. Some (record { hart = h; column = a.column })) (closed_set s plugin h) None) (harts_of run);
+  columns = filter_map
+      (λ h. option_map_or (λ a. Some (record { hart = h; column = a.column })) (closed_set s plugin h) None) (harts_of run);
 }
 
 -- the sets and the closer are out

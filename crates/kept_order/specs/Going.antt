@@ -34,7 +34,8 @@ OthersLeaveRunnersAlone = (t : Task) (h : ℕ) (more past : List Item) → h < t
 
 -- a hart that has left has left for good
 abbrev pub LeftIsLeft : Type 0
-LeftIsLeft = (run : Run) (h : ℕ) (more past : List Item) → has_left (plugins run past) h ≡ true → has_left (plugins run (more ++ past)) h ≡ true
+LeftIsLeft = (run : Run) (h : ℕ) (more past : List Item)
+    → has_left (plugins run past) h ≡ true → has_left (plugins run (more ++ past)) h ≡ true
 
 -- While the hart goes through a Turn of up to 512 steps.
 

@@ -12,3 +12,4 @@ pub mod Going
 pub mod Lying
 pub mod Waking
 pub mod Withdrawing
+pub mod Summing

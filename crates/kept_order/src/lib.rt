@@ -12,6 +12,7 @@ pub mod lying;
 pub mod opening;
 pub mod ordering;
 pub mod returning;
+pub mod summing;
 pub mod taking;
 pub mod turning;
 pub mod waking;

@@ -1,5 +1,5 @@
 -- A set that is attached to a hart, as plain data; `docs/plug-ins.md`, "Acts", says in words what its acts do.
-use Rattle.std.specs.Prelude.{◌<◌, ◌==◌, ℕ, Bool, true, false, not, nat_lt, List, [], ◌∷◌, ◌++◌}
+use Rattle.std.specs.Prelude.{◌≡◌, ◌<◌, ◌≤◌, ◌==◌, ℕ, Bool, true, false, not, nat_lt, List, [], ◌∷◌, ◌++◌}
 use Rattle.std.specs.Prelude.{filter, find, length, map, replicate, slice_get, slice_index, slice_index_or}
 use Rattle.std.specs.Prelude.{Option, Some, None, option_map, option_and_then, IfSome}
 use Rattle.flat_model.specs.declared.events.Event.{Event}
@@ -27,6 +27,16 @@ opening plugin spec = record {
   heard = replicate (length spec.subs) [];
   column = opening_column spec.entries;
 }
+
+-- room for a set: a hart's entries, and how many acts have a place
+pub record Room : Type 0 where
+  pub column : List ℕ
+  pub acts : ℕ
+
+-- enough for a set
+pub record IsRoomFor (spec : SetSpec) (room : Room) : Type 0 where
+  pub column : room.column ≡ opening_column spec.entries
+  pub acts : length spec.subs ≤ room.acts
 
 -- the kind of the box that an act calls
 abbrev pub called_kind : Act → Option Kind

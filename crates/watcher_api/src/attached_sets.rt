@@ -3,12 +3,13 @@
 ghost use Rattle.std.specs.Prelude.{◌≡◌, ◌<◌, ◌≤◌, ◌+◌, ◌↔◌, if◌then◌else◌, [], None, true, length, map, option_copied, vec_len};
 ghost use Rattle.std.specs.Prelude.{All, IfOk, IsTrue, OnOk, OnErr, MatchResult};
 ghost use Rattle.flat_model.specs.Acts.{calls, calling};
-ghost use Rattle.watcher_api.specs.Attachment.{IsWithin, opening, calls_at, box_at};
+ghost use Rattle.watcher_api.specs.Attachment.{IsWithin, IsRoomFor, opening, calls_at, box_at};
 ghost use Rattle.watcher_api.specs.HeldActs.{act_of, heard_of};
 ghost use Rattle.watcher_api.specs.Acting.{act_in, HasActed};
 
 use crate::held_acts::{HeldAct, carry_out};
 use crate::holders::Held;
+use crate::seats::Seats;
 use crate::watchers::Watcher;
 use flat_model::{Act, Ask, Event, NoMemory, SetSpec};
 use score_boards::Column;
@@ -112,16 +113,37 @@ impl<W: Watcher> AttachedSet<W> {
         ensures blank { All (λ w. W.kind_of w ≡ None) watchers.new.items }
         ensures refused { OnErr result (watchers.new.items ≡ watchers.old.items) }
     {
-        let column = Column::new(alloc, spec.entries)?;
-        let mut held = Vec::with_capacity(alloc, spec.subs.as_slice().len())?;
+        let seats = Seats::new(alloc, spec)?;
+        Ok(AttachedSet::seated(plugin, spec, seats, watchers))
+    }
+
+    /// The same in room that was taken for it, which takes no memory.
+    pub fn seated(
+        plugin: u8,
+        spec: &SetSpec,
+        seats: Seats<W>,
+        watchers: &mut Vec<W>,
+    ) -> AttachedSet<W>
+        requires number { 1 ≤ plugin }
+        requires most { plugin ≤ 8 }
+        requires subs { length spec.now.subs ≤ 16 }
+        requires entries { All (λ s. IsWithin spec.now.entries s.act) spec.now.subs }
+        requires room { IsRoomFor spec.now seats }
+        requires blank { All (λ w. W.kind_of w ≡ None) watchers.old.items }
+        requires enough { calling spec.now.subs ≤ vec_len watchers.old }
+        ensures opening { result ≡ opening plugin spec.now }
+        ensures left { vec_len watchers.new + calling spec.now.subs ≡ vec_len watchers.old }
+        ensures blank { All (λ w. W.kind_of w ≡ None) watchers.new.items }
+    {
+        let Seats { column, mut held } = seats;
         for sub in spec.subs.as_slice() {
             held.push_reserved(with_box(&sub.act, watchers));
         }
-        Ok(AttachedSet {
+        AttachedSet {
             plugin,
             column,
             held,
-        })
+        }
     }
 
     /// The number of its plug-in, from 1.

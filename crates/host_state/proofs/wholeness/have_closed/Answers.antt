@@ -1,6 +1,4 @@
-use Rattle.std.proofs.Common.{◌<◌, ℕ, length, arith, refl}
-use Rattle.std.proofs.lemmas.List.Folds.{list_any_none}
-use Rattle.flat_model.specs.Registry.{Plugin, is_closing}
+use Rattle.std.proofs.Common.{arith, refl}
 use Rattle.host_state.proofs.Finishing.{none_closes}
 use Rattle.host_state.proofs.wholeness.have_closed.Goals as goal
 

@@ -1,10 +1,9 @@
-use Rattle.std.proofs.Common.{◌≡◌, ◌+◌, ◌<◌, ◌^◌, ◌∙◌, ℕ, true, refl, sym, subst, ap, arith}
+use Rattle.std.proofs.Common.{◌≡◌, ◌+◌, ◌<◌, ◌^◌, sym, subst, arith}
 use Rattle.flat_model.specs.Log.{steps}
-use Rattle.flat_model.specs.Worlds.{hart_of, world}
+use Rattle.flat_model.specs.Worlds.{hart_of}
 use Rattle.flat_model.specs.World.{HartState, IsHart}
 use Rattle.rv_exec.specs.Sharing.{shared_of}
 use Rattle.run_rules.specs.Legal.{Legal}
-use Rattle.run_rules.specs.Places.{IsStateLog}
 use Rattle.run_order.specs.InOrder.{task_run}
 use Rattle.host_state.specs.State.{StateValue}
 use Rattle.host_state.proofs.Commits.{fits}
@@ -29,9 +28,11 @@ push-requires-clause-fits g c =
     let n = c.args.ran + c.rest_of_block-rest.result in
     fits _ h n c.self.invariant
     (subst (λ (s : StateValue). Legal (task_run s.task) (steps h n s.past)) (sym c.self.view_is)
-    (turn_of _ _ c.self.view_is c.self.invariant _ _ _ _ _ _ _ _ _ _ _ c.image.ensures.image c.limit.ensures.limit c.requires.begins
-    c.requires.before c.requires.awake c.requires.group c.requires.ran c.rest_of_block-rest.ensures.whole
-    c.rest_of_block-rest.ensures.rest).legal)
+    (turn_of _ _ c.self.view_is c.self.invariant c.image.result.now c.limit.result h c.args.ran c.rest_of_block-rest.result
+    c.args.before.now c.args.hart.now c.rest_of_block-rest.new.hart
+    (shared_of c.rest_of_block-rest.new.memory c.rest_of_block-rest.new.services) c.args.raw.now.events
+    c.rest_of_block-rest.new.raw.events c.image.ensures.image c.limit.ensures.limit c.requires.begins c.requires.before c.requires.awake
+    c.requires.group c.requires.ran c.rest_of_block-rest.ensures.whole c.rest_of_block-rest.ensures.rest).legal)
 
 -- the Turn that is recorded
 turn : (g : Over) (c : goal.After-self-1 g)

@@ -4,8 +4,8 @@ use Rattle.host_state.proofs.states.HostState.whole.Goals as goal
 
 pub returns-then-have_left : goal.returns-then-have_left
 returns-then-have_left g c = record {
-  whole = λ long. whole_where c.args.self.now _ c.self.view_is c.self.invariant c.requires.caught_up c.harts.result c.harts.ensures.harts long
-      (c.if-have_left.ensures.left.0 refl) c.have_closed.result c.have_closed.ensures.closed;
+  whole = λ long. whole_where c.args.self.now _ c.self.view_is c.self.invariant c.requires.caught_up c.harts.result
+      c.harts.ensures.harts long (c.if-have_left.ensures.left.0 refl) c.have_closed.result c.have_closed.ensures.closed;
 }
 
 pub returns-else-have_left : goal.returns-else-have_left

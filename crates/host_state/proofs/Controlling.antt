@@ -1,0 +1,240 @@
+-- The state as a controller's order stands in it.
+use Rattle.std.proofs.Common.{◌≡◌, ◌≤◌, ◌<◌, ◌+◌, ◌-◌, ◌*◌, ◌∷◌, ◌∙◌, ℕ, true, false, not, List, Option, Some, None, length}
+use Rattle.std.proofs.Common.{refl, sym, ap, subst, arith, map, replicate}
+use Rattle.std.specs.Prelude.{is_some, ◌&&◌, nat_lt, nat_le, slice_set, Vec, vec_len}
+use Rattle.std.specs.Global.{Global}
+use Rattle.std.specs.List.Sorted.{IsNonDecreasingBy}
+use Rattle.std.proofs.lemmas.List.{map-set, length-set, length-map}
+use Rattle.std.proofs.lemmas.Bool.Decides.{nat_tests}
+use Rattle.flat_model.specs.declared.plugins.SetSpec.{SetSpec}
+use Rattle.flat_model.specs.declared.limits.TheConstants.{PLUGINS_MOST}
+use Rattle.flat_model.specs.Acts.{calling}
+use Rattle.flat_model.specs.declared.journals.Item.{Item}
+use Rattle.flat_model.specs.declared.journals.Item.TheVariants.{Ordered}
+use Rattle.flat_model.specs.declared.journals.Order.{Order}
+use Rattle.flat_model.specs.declared.journals.Order.TheVariants.{Install, Register, Reset, Uninstall}
+use Rattle.flat_model.specs.declared.journals.Origin.TheVariants.{Control}
+use Rattle.flat_model.specs.Log.{log}
+use Rattle.flat_model.specs.Registry.{Plugins, refusal, after_order, is_hart}
+use Rattle.plug_registry.specs.State.{RegistryState}
+use Rattle.run_journal.specs.Journal.{JournalState}
+use Rattle.run_rules.specs.Due.{wanted}
+use Rattle.run_rules.specs.Legal.{Legal}
+use Rattle.run_order.specs.InOrder.{Task, task_run}
+use Rattle.kept_order.specs.Ordering.{IsWithdrawal}
+use Rattle.kept_order.proofs.Orders.{withdrawals_keep_order, same_long, withdrawal_names}
+use Rattle.kept_order.proofs.Orders.{registrations_keep_order}
+use Rattle.kept_order.proofs.Withdrawals.{plugins_are_few}
+use Rattle.kept_order.proofs.Gone.{as_many}
+use Rattle.plug_registry.proofs.Allowed.{may_install, may_register}
+use Rattle.watcher_api.specs.Attachment.{Attachment, opening}
+use Rattle.kept_order.proofs.Unplanned.{unplanned_orders_pass_nothing_by}
+use Rattle.host_state.specs.Ordering.{ChangesByOrder}
+use Rattle.host_state.proofs.AllowedSets.{IsAttachable, install_attachable, register_attachable}
+use Rattle.host_state.proofs.Shelved.{waiting_long}
+use Rattle.host_state.specs.State.{StateValue, IsSound, stored_of}
+
+-- the plan wants nothing, the party is no hart, and the registry allows the order
+pub record MayControl (s : StateValue) (party : ℕ) (order : Order) : Type 0 where
+  pub none : wanted (task_run s.task) s.past ≡ None
+  pub outside : is_hart s.registry.table party ≡ false
+  pub allowed : refusal s.registry.table order ≡ None
+
+-- seen from the value of the state's parts
+pub may_control : (was s : StateValue) (party : ℕ) (order : Order) → s ≡ was → wanted (task_run was.task) was.past ≡ None
+    → is_hart was.registry.table party ≡ false → refusal was.registry.table order ≡ None → MayControl s party order
+may_control was s party order is none outside allowed =
+    subst (λ (v : StateValue). MayControl v party order) (sym is) (record { none = none; outside = outside; allowed = allowed })
+
+pub may_stand : (s : StateValue) (party : ℕ) (order : Order) → IsSound s → MayControl s party order
+    → Legal (task_run s.task) (Ordered (Control party) order ∷ s.past)
+unfolding Legal
+may_stand s party order sound may = (
+  sound.order.legal,
+  record {
+    allowed = ap (λ (r : Plugins). not (is_some (refusal r order))) (sym sound.order.plugins)
+        ∙ ap (λ o. not (is_some o)) may.allowed;
+    given = (
+      ap (λ o. not (is_some o)) may.none,
+      ap (λ (r : Plugins). is_hart r party) (sym sound.order.plugins) ∙ may.outside,
+    );
+  },
+)
+
+same_boxes : (order : Order) (r : Plugins) → IsWithdrawal order → (after_order order r).boxes ≡ r.boxes
+same_boxes (Install spec) r is = absurd is
+same_boxes (Register plugin spec) r is = absurd is
+same_boxes (Reset plugin) r is = refl
+same_boxes (Uninstall plugin) r is = refl
+
+pub withdrawn_sound : (s : StateValue) (party : ℕ) (order : Order) (past : List Item) (journal : JournalState) (registry : RegistryState)
+    → IsSound s → MayControl s party order → IsWithdrawal order → past ≡ Ordered (Control party) order ∷ s.past
+    → log journal.entries ≡ Ordered (Control party) order ∷ log s.journal.entries
+    → registry.table ≡ after_order order s.registry.table
+    → IsSound (record s { past = past; journal = journal; registry = registry })
+withdrawn_sound s party order past journal registry sound may is items entries table =
+    let now : StateValue = record s { past = past; journal = journal; registry = registry } in
+    let kept = withdrawals_keep_order s.task (Control party) order (stored_of s) (stored_of now) is sound.order
+    (may_stand s party order sound may) (record {
+      past = items;
+      journal = entries;
+      shared = refl;
+      plugins = table;
+      waiting = refl;
+      parked = refl;
+      harts = refl;
+      closers = refl;
+    }) in
+    let boxes = ap (λ (r : Plugins). r.boxes) table ∙ same_boxes order s.registry.table is in
+    let long = ap (λ (r : Plugins). length r.plugins) table ∙ same_long s.registry.table order (withdrawal_names order is) in
+    record {
+      order = kept.order;
+      arriving = sound.arriving ∙ sym kept.arrivals;
+      limits = sound.limits;
+      memory = sound.memory;
+      places = sound.places;
+      starts = sound.starts;
+      boxes = omega (arith, boxes, sound.boxes);
+      closers = omega (arith, long, sound.closers);
+      failed = sound.failed;
+    }
+
+-- A registration.
+
+-- the plug-in is there, and its set has boxes
+pub record CanRegister (s : StateValue) (plugin : ℕ) (spec : SetSpec) : Type 0 where
+  pub one : 1 ≤ plugin
+  pub most : plugin ≤ 8
+  pub row : plugin - 1 < length s.waiting
+  pub attachable : IsAttachable spec
+  pub boxes : s.task.machine.harts * calling spec.subs ≤ s.boxes
+
+installed_within : (n plugin : ℕ) → (nat_lt 0 plugin && nat_le plugin n) ≡ true → (1 ≤ plugin) × (plugin ≤ n)
+installed_within n plugin is = grind (arith, nat_tests, is)
+
+taken_by : (s : StateValue) (spec : SetSpec) → IsSound s
+    → s.registry.table.harts * calling spec.subs ≡ s.task.machine.harts * calling spec.subs
+taken_by s spec sound =
+    ap (λ (n : ℕ). n * calling spec.subs) (ap (λ (r : Plugins). r.harts) sound.order.plugins ∙ as_many (task_run s.task) s.past)
+
+-- by what the registry of the whole state allows
+pub can_register : (was s : StateValue) (plugin : ℕ) (spec : SetSpec) → s ≡ was → IsSound s
+    → refusal was.registry.table (Register plugin spec) ≡ None → CanRegister s plugin spec
+can_register was s plugin spec is sound free =
+    let allowed : refusal s.registry.table (Register plugin spec) ≡ None =
+    ap (λ (v : StateValue). refusal v.registry.table (Register plugin spec)) is ∙ free in
+    let may = may_register s.registry.table plugin spec allowed in
+    let number = installed_within (length s.registry.table.plugins) plugin may.installed in
+    let long : length s.waiting ≡ length s.registry.table.plugins =
+    waiting_long s.task (stored_of s) sound.order ∙ ap (λ (r : Plugins). length r.plugins) (sym sound.order.plugins) in
+    let few : length s.registry.table.plugins ≤ PLUGINS_MOST =
+    subst (λ (r : Plugins). length r.plugins ≤ PLUGINS_MOST) (sym sound.order.plugins)
+    (plugins_are_few (task_run s.task) s.past sound.order.legal) in
+    record {
+      one = number.0;
+      most = omega (arith, number.1, few);
+      row = omega (arith, number.0, number.1, long);
+      attachable = register_attachable s.registry.table plugin spec allowed;
+      boxes = omega (arith, may.boxes, taken_by s spec sound, sound.boxes);
+    }
+
+pub registered_sound : (s : StateValue) (party plugin : ℕ) (spec : SetSpec) (past : List Item) (journal : JournalState)
+    (registry : RegistryState) (waiting : List (List (Option Attachment))) (arriving : List (List (Option SetSpec))) (boxes spare : ℕ)
+    → IsSound s → MayControl s party (Register plugin spec) → past ≡ Ordered (Control party) (Register plugin spec) ∷ s.past
+    → log journal.entries ≡ Ordered (Control party) (Register plugin spec) ∷ log s.journal.entries
+    → registry.table ≡ after_order (Register plugin spec) s.registry.table
+    → waiting ≡ slice_set s.waiting (plugin - 1) (replicate s.task.machine.harts (Some (opening plugin spec)))
+    → arriving ≡ slice_set s.arriving (plugin - 1) (replicate s.task.machine.harts (Some spec))
+    → boxes + s.task.machine.harts * calling spec.subs ≡ s.boxes → spare ≡ s.spare_closers
+    → IsSound (record s {
+      past = past;
+      journal = journal;
+      registry = registry;
+      waiting = waiting;
+      arriving = arriving;
+      boxes = boxes;
+      spare_closers = spare;
+    })
+registered_sound s party plugin spec past journal registry waiting arriving boxes spare sound may items entries table waits arrives left
+    same_closers =
+    let now : StateValue = record s {
+      past = past;
+      journal = journal;
+      registry = registry;
+      waiting = waiting;
+      arriving = arriving;
+      boxes = boxes;
+      spare_closers = spare;
+    } in
+    let kept = registrations_keep_order s.task (Control party) plugin spec (stored_of s) (stored_of now) sound.order
+    (may_stand s party (Register plugin spec) sound may) (record {
+      past = items;
+      journal = entries;
+      shared = refl;
+      plugins = table;
+      waiting = waits;
+      parked = refl;
+      harts = refl;
+      closers = refl;
+    }) in
+    let fewer : registry.table.boxes ≡ s.registry.table.boxes - s.registry.table.harts * calling spec.subs =
+    ap (λ (r : Plugins). r.boxes) table in
+    let long : length registry.table.plugins ≡ length s.registry.table.plugins =
+    ap (λ (r : Plugins). length r.plugins) table ∙ length-set s.registry.table.plugins (plugin - 1) _ in
+    record {
+      order = kept.order;
+      arriving = arrives
+          ∙ ap (λ rows. slice_set rows (plugin - 1) (replicate s.task.machine.harts (Some spec))) sound.arriving ∙ sym kept.arrivals;
+      limits = sound.limits;
+      memory = sound.memory;
+      places = sound.places;
+      starts = sound.starts;
+      boxes = omega (arith, fewer, taken_by s spec sound, left, sound.boxes);
+      closers = omega (arith, long, same_closers, sound.closers);
+      failed = sound.failed;
+    }
+
+-- a table of which a row is written, each row seen as something else
+pub row_set : {A B : Type 0} (f : A → B) (rows now : List A) (i j : ℕ) (row : A) (shown : B) → now ≡ slice_set rows i row → f row ≡ shown
+    → i ≡ j → map f now ≡ slice_set (map f rows) j shown
+row_set f rows now i j row shown written is place =
+    ap (map f) written ∙ map-set f rows i row ∙ ap (slice_set (map f rows) i) is ∙ ap (λ (k : ℕ). slice_set (map f rows) k shown) place
+
+pub row_below : {A B : Type 0} (f : A → B) (rows : Vec A Global) (i j : ℕ) → i ≡ j → j - 1 < length (map f rows.items)
+    → i - 1 < vec_len rows
+row_below f rows i j is below = omega (arith, below, is, length-map rows.items f)
+
+-- An install.
+
+-- there is room for one more, and its set has boxes
+pub record CanInstall (s : StateValue) (spec : SetSpec) : Type 0 where
+  pub number : length s.registry.table.plugins + 1 ≤ 8
+  pub attachable : IsAttachable spec
+  pub boxes : s.task.machine.harts * calling spec.subs ≤ s.boxes
+  pub closer : 0 < s.spare_closers
+
+pub can_install : (was s : StateValue) (spec : SetSpec) → s ≡ was → IsSound s → refusal was.registry.table (Install spec) ≡ None
+    → CanInstall s spec
+can_install was s spec is sound free =
+    let allowed : refusal s.registry.table (Install spec) ≡ None =
+    ap (λ (v : StateValue). refusal v.registry.table (Install spec)) is ∙ free in
+    let may = may_install s.registry.table spec allowed in
+    record {
+      number = omega (arith, may.few);
+      attachable = install_attachable s.registry.table spec allowed;
+      boxes = omega (arith, may.boxes, taken_by s spec sound, sound.boxes);
+      closer = omega (arith, may.few, sound.closers);
+    }
+
+-- Behind the order.
+
+-- the plan wants nothing, as it wanted nothing before
+pub wants_nothing : (was s new : StateValue) (party : ℕ) (order : Order) → s ≡ was
+    → IsNonDecreasingBy (λ t. t.when) s.task.plan.script → wanted (task_run was.task) was.past ≡ None
+    → new.past ≡ Ordered (Control party) order ∷ was.past → ChangesByOrder was new → wanted (task_run new.task) new.past ≡ None
+wants_nothing was s new party order is rising none items rest =
+    let risen : IsNonDecreasingBy (λ t. t.when) was.task.plan.script =
+    subst (λ (v : StateValue). IsNonDecreasingBy (λ t. t.when) v.task.plan.script) is rising in
+    let task : new.task ≡ was.task = ap (λ (v : StateValue). v.task) rest in
+    ap (λ (t : Task). wanted (task_run t) new.past) task ∙ ap (wanted (task_run was.task)) items
+    ∙ unplanned_orders_pass_nothing_by (task_run was.task) (Control party) order was.past risen tt none

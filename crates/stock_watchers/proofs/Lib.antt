@@ -1,0 +1,4 @@
+pub mod Heard
+pub mod Summing
+pub mod Tracing
+pub mod RowsKept
