@@ -1,5 +1,6 @@
 -- Sums by key after one event more, and the rows that they give.
-use Rattle.std.proofs.Common.{◌≡◌, ◌≢◌, ℕ, ◌∙◌, ◌+◌, ◌%◌, ◌^◌, false, List, [], ◌∷◌, ◌++◌, length, map, sum_by, Some, None, refl, ap, sym, subst, ⊎_elim, zero-add, arith, All}
+use Rattle.std.proofs.Common.{◌≡◌, ◌≢◌, ℕ, ◌∙◌, ◌+◌, ◌%◌, ◌^◌, false, List, [], ◌∷◌, ◌++◌}
+use Rattle.std.proofs.Common.{length, map, sum_by, Some, None, refl, ap, sym, subst, ⊎_elim, zero-add, arith, All}
 use Rattle.std.specs.BTreeMap.{BTreeMap, get, keys, Updates, IsOrdered}
 use Rattle.std.specs.BTreeSet.{insert_key}
 use Rattle.std.specs.Map.{keys_of}
