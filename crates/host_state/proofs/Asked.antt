@@ -33,6 +33,8 @@ use Rattle.kept_order.proofs.Orders.{withdrawals_keep_order, same_long, withdraw
 use Rattle.kept_order.proofs.Ranges.{all_of}
 use Rattle.kept_order.proofs.Unplanned.{unplanned_orders_pass_nothing_by}
 use Rattle.kept_order.proofs.Withdrawals.{withdrawals_move_nothing, asks_stand}
+use Rattle.host_state.specs.Rooms.{HasRooms}
+use Rattle.host_state.proofs.RoomKeeping.{withdrawn_rooms}
 use Rattle.host_state.specs.Asking.{IsAskedBy, IsUnmoved, IsQuieted, withdrawal, asked_item}
 use Rattle.host_state.specs.State.{StateValue, IsSound, stored_of}
 
@@ -129,6 +131,8 @@ ordered s h plugin by past journal registry sound may b =
       starts = sound.starts;
       boxes = omega (arith, boxes, sound.boxes);
       closers = omega (arith, long, sound.closers);
+      rooms = subst (λ (xs : List Item). HasRooms (task_run s.task) xs s.rooms) (sym b.past)
+          (withdrawn_rooms (task_run s.task) (Asked h plugin) order s.past s.rooms is sound.rooms);
       failed = sound.failed;
     }
 

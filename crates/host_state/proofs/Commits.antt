@@ -1,5 +1,5 @@
 -- A state to which steps of a hart were added.
-use Rattle.std.proofs.Common.{◌≡◌, ◌==◌, ◌<◌, ◌≤◌, ◌*◌, ◌^◌, ◌∙◌, ◌∷◌, ℕ, zero, suc, List, true, false, Some, None, Option, refl, sym, ap, subst, arith}
+use Rattle.std.proofs.Common.{◌≡◌, ◌==◌, ◌<◌, ◌≤◌, ◌*◌, ◌∙◌, ◌∷◌, ℕ, zero, suc, List, true, false, Some, None, Option, refl, sym, ap, subst, arith}
 use Rattle.std.specs.Prelude.{IfSome, length, is_some, not, Bool}
 use Rattle.std.proofs.lemmas.Bool.{false≢true}
 use Rattle.std.proofs.lemmas.Bool.Decides.{nat_tests}
@@ -12,23 +12,24 @@ use Rattle.flat_model.specs.Permission.{spans_of}
 use Rattle.flat_model.specs.declared.events.Event.{Event}
 use Rattle.flat_model.specs.World.{Machine, World, HartState, Shared}
 use Rattle.flat_model.specs.Step.{Stepped, IsSharedStep, step, step_of, steps_of}
-use Rattle.flat_model.specs.Worlds.{world, hart_of, next_step, IsRunOf}
+use Rattle.flat_model.specs.Worlds.{world, hart_of, IsRunOf}
 use Rattle.flat_model.proofs.Worlds.{runs_alone}
 use Rattle.guest_memory.specs.Memory.{MemoryState, harts_of}
-use Rattle.rv_exec.specs.Sharing.{ServicesState, shared_of, IsMemoryOf, machine_on, KeepsLayout, KeepsPlaces}
+use Rattle.rv_exec.specs.Sharing.{ServicesState, shared_of, IsMemoryOf, machine_on, KeepsLayout}
 use Rattle.run_journal.specs.Journal.{JournalState, joined_turn, IsSmall}
-use Rattle.run_rules.specs.Guest.{plugins}
 use Rattle.run_rules.specs.Legal.{Legal, may_step, runs, is_there}
 use Rattle.run_rules.specs.Places.{takes_all}
 use Rattle.run_rules.proofs.Turns.{first_true, rest_true}
-use Rattle.run_order.specs.InOrder.{Task, InOrder, task_run}
+use Rattle.run_order.specs.InOrder.{Task, task_run}
 use Rattle.kept_order.specs.Arriving.{arrivals}
 use Rattle.kept_order.proofs.Gone.{there_low}
 use Rattle.kept_order.proofs.Turns.{turns_keep_order}
 use Rattle.kept_order.proofs.TurnLengths.{turns_fit}
 use Rattle.kept_order.proofs.Arrivals.{arrivals_stay}
+use Rattle.host_state.specs.Rooms.{HasRooms}
+use Rattle.host_state.proofs.RoomKeeping.{step_rooms}
 use Rattle.host_state.specs.Moving.{MovesAlone}
-use Rattle.host_state.specs.State.{StateValue, IsSound, IsWithinLimits, stored_of}
+use Rattle.host_state.specs.State.{StateValue, IsSound, stored_of}
 
 -- a hart that may step
 pub record IsReady (s : StateValue) (h : ℕ) (hart : HartState) : Type 0 where
@@ -115,6 +116,8 @@ committed s h n past journal memory services sound legal takes b =
       starts = b.starts;
       boxes = sound.boxes;
       closers = sound.closers;
+      rooms = subst (λ (xs : List Item). HasRooms (task_run s.task) xs s.rooms) (sym b.past)
+          (step_rooms (task_run s.task) h n s.past s.rooms sound.rooms);
       failed = sound.failed;
     }
 

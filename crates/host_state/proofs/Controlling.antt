@@ -2,6 +2,7 @@
 use Rattle.std.proofs.Common.{◌≡◌, ◌≤◌, ◌<◌, ◌+◌, ◌-◌, ◌*◌, ◌∷◌, ◌∙◌, ℕ, true, false, not, List, Option, Some, None, length}
 use Rattle.std.proofs.Common.{refl, sym, ap, subst, arith, map, replicate}
 use Rattle.std.specs.Prelude.{is_some, ◌&&◌, nat_lt, nat_le, slice_set, Vec, vec_len}
+use Rattle.std.specs.Prelude.{Result, Ok, Err, OnErr}
 use Rattle.std.specs.Global.{Global}
 use Rattle.std.specs.List.Sorted.{IsNonDecreasingBy}
 use Rattle.std.proofs.lemmas.List.{map-set, length-set, length-map}
@@ -9,6 +10,7 @@ use Rattle.std.proofs.lemmas.Bool.Decides.{nat_tests}
 use Rattle.flat_model.specs.declared.plugins.SetSpec.{SetSpec}
 use Rattle.flat_model.specs.declared.limits.TheConstants.{PLUGINS_MOST}
 use Rattle.flat_model.specs.Acts.{calling}
+use Rattle.flat_model.specs.declared.journals.Entry.{Entry}
 use Rattle.flat_model.specs.declared.journals.Item.{Item}
 use Rattle.flat_model.specs.declared.journals.Item.TheVariants.{Ordered}
 use Rattle.flat_model.specs.declared.journals.Order.{Order}
@@ -20,7 +22,8 @@ use Rattle.plug_registry.specs.State.{RegistryState}
 use Rattle.run_journal.specs.Journal.{JournalState}
 use Rattle.run_rules.specs.Due.{wanted}
 use Rattle.run_rules.specs.Legal.{Legal}
-use Rattle.run_order.specs.InOrder.{Task, task_run}
+use Rattle.run_order.specs.InOrder.{Task, InOrder, task_run}
+use Rattle.run_order.specs.Sets.{Notice}
 use Rattle.kept_order.specs.Ordering.{IsWithdrawal}
 use Rattle.kept_order.proofs.Orders.{withdrawals_keep_order, same_long, withdrawal_names}
 use Rattle.kept_order.proofs.Orders.{registrations_keep_order}
@@ -29,7 +32,9 @@ use Rattle.kept_order.proofs.Gone.{as_many}
 use Rattle.plug_registry.proofs.Allowed.{may_install, may_register}
 use Rattle.watcher_api.specs.Attachment.{Attachment, opening}
 use Rattle.kept_order.proofs.Unplanned.{unplanned_orders_pass_nothing_by}
-use Rattle.host_state.specs.Ordering.{ChangesByOrder}
+use Rattle.host_state.specs.Ordering.{IsAsBefore, ChangesByOrder}
+use Rattle.host_state.specs.Rooms.{Room, IsRoomFor, HasRooms}
+use Rattle.host_state.proofs.RoomKeeping.{withdrawn_rooms, register_rooms}
 use Rattle.host_state.proofs.AllowedSets.{IsAttachable, install_attachable, register_attachable}
 use Rattle.host_state.proofs.Shelved.{waiting_long}
 use Rattle.host_state.specs.State.{StateValue, IsSound, stored_of}
@@ -60,6 +65,56 @@ may_stand s party order sound may = (
     );
   },
 )
+
+-- Want of memory: room was taken, and nothing else changed.
+
+pub same_map : {A B : Type 0} (f : A → B) (xs now : List A) → now ≡ xs → map f now ≡ map f xs
+same_map f xs now is = ap (map f) is
+
+pub as_before : (was s : StateValue) (registry : RegistryState) (journal : JournalState) (waiting : List (List (Option Attachment)))
+    (arriving : List (List (Option SetSpec))) (parked : List (List (Option Attachment))) (closers : List (Option (List Notice)))
+    (rooms : List Room) → s ≡ was → registry.table ≡ s.registry.table → journal.entries ≡ s.journal.entries
+    → waiting ≡ s.waiting → arriving ≡ s.arriving → parked ≡ s.parked → closers ≡ s.closers → rooms ≡ s.rooms
+    → IsAsBefore was (record s {
+      registry = registry;
+      journal = journal;
+      waiting = waiting;
+      arriving = arriving;
+      parked = parked;
+      closers = closers;
+      rooms = rooms;
+    })
+as_before was s registry journal waiting arriving parked closers rooms is table entries waits arrives parks closed roomed = record {
+  rest = cc;
+  table = table ∙ ap (λ (v : StateValue). v.registry.table) is;
+  entries = entries ∙ ap (λ (v : StateValue). v.journal.entries) is;
+}
+
+pub roomier_is_sound : (s new : StateValue) → IsSound s → IsAsBefore s new → IsSound new
+roomier_is_sound s new sound before =
+    let now : StateValue = record s { registry = new.registry; journal = new.journal } in
+    let boxes = ap (λ (r : Plugins). r.boxes) before.table in
+    let long = ap (λ (r : Plugins). length r.plugins) before.table in
+    let order : InOrder s.task (stored_of now) =
+    subst (λ (r : Plugins). InOrder s.task (record (stored_of now) { plugins = r })) (sym before.table)
+    (subst (λ (es : List Entry). InOrder s.task (record (stored_of s) { entries = es })) (sym before.entries) sound.order) in
+    subst IsSound (sym before.rest) (record {
+      order = order;
+      arriving = sound.arriving;
+      limits = sound.limits;
+      memory = sound.memory;
+      places = sound.places;
+      starts = sound.starts;
+      rooms = sound.rooms;
+      boxes = omega (arith, boxes, sound.boxes);
+      closers = omega (arith, long, sound.closers);
+      failed = sound.failed;
+    })
+
+-- what holds stands behind a failed call
+pub on_err : {T E P : Type 0} (r : Result T E) → P → OnErr r P
+on_err (Ok x) holds = tt
+on_err (Err e) holds = holds
 
 same_boxes : (order : Order) (r : Plugins) → IsWithdrawal order → (after_order order r).boxes ≡ r.boxes
 same_boxes (Install spec) r is = absurd is
@@ -96,6 +151,8 @@ withdrawn_sound s party order past journal registry sound may is items entries t
       starts = sound.starts;
       boxes = omega (arith, boxes, sound.boxes);
       closers = omega (arith, long, sound.closers);
+      rooms = subst (λ (xs : List Item). HasRooms (task_run s.task) xs s.rooms) (sym items)
+          (withdrawn_rooms (task_run s.task) (Control party) order s.past s.rooms is sound.rooms);
       failed = sound.failed;
     }
 
@@ -106,6 +163,7 @@ pub record CanRegister (s : StateValue) (plugin : ℕ) (spec : SetSpec) : Type 0
   pub one : 1 ≤ plugin
   pub most : plugin ≤ 8
   pub row : plugin - 1 < length s.waiting
+  pub room : plugin - 1 < length s.rooms
   pub attachable : IsAttachable spec
   pub boxes : s.task.machine.harts * calling spec.subs ≤ s.boxes
 
@@ -127,6 +185,8 @@ can_register was s plugin spec is sound free =
     let number = installed_within (length s.registry.table.plugins) plugin may.installed in
     let long : length s.waiting ≡ length s.registry.table.plugins =
     waiting_long s.task (stored_of s) sound.order ∙ ap (λ (r : Plugins). length r.plugins) (sym sound.order.plugins) in
+    let rooms : length s.rooms ≡ length s.registry.table.plugins =
+    sound.rooms.count ∙ ap (λ (r : Plugins). length r.plugins) (sym sound.order.plugins) in
     let few : length s.registry.table.plugins ≤ PLUGINS_MOST =
     subst (λ (r : Plugins). length r.plugins ≤ PLUGINS_MOST) (sym sound.order.plugins)
     (plugins_are_few (task_run s.task) s.past sound.order.legal) in
@@ -134,17 +194,19 @@ can_register was s plugin spec is sound free =
       one = number.0;
       most = omega (arith, number.1, few);
       row = omega (arith, number.0, number.1, long);
+      room = omega (arith, number.0, number.1, rooms);
       attachable = register_attachable s.registry.table plugin spec allowed;
       boxes = omega (arith, may.boxes, taken_by s spec sound, sound.boxes);
     }
 
 pub registered_sound : (s : StateValue) (party plugin : ℕ) (spec : SetSpec) (past : List Item) (journal : JournalState)
-    (registry : RegistryState) (waiting : List (List (Option Attachment))) (arriving : List (List (Option SetSpec))) (boxes spare : ℕ)
-    → IsSound s → MayControl s party (Register plugin spec) → past ≡ Ordered (Control party) (Register plugin spec) ∷ s.past
+    (registry : RegistryState) (waiting : List (List (Option Attachment))) (arriving : List (List (Option SetSpec))) (rooms : List Room) (given : Room)
+    (boxes spare : ℕ) → IsSound s → MayControl s party (Register plugin spec) → past ≡ Ordered (Control party) (Register plugin spec) ∷ s.past
     → log journal.entries ≡ Ordered (Control party) (Register plugin spec) ∷ log s.journal.entries
     → registry.table ≡ after_order (Register plugin spec) s.registry.table
     → waiting ≡ slice_set s.waiting (plugin - 1) (replicate s.task.machine.harts (Some (opening plugin spec)))
     → arriving ≡ slice_set s.arriving (plugin - 1) (replicate s.task.machine.harts (Some spec))
+    → rooms ≡ slice_set s.rooms (plugin - 1) given → IsRoomFor s.task.machine.harts given
     → boxes + s.task.machine.harts * calling spec.subs ≡ s.boxes → spare ≡ s.spare_closers
     → IsSound (record s {
       past = past;
@@ -152,20 +214,24 @@ pub registered_sound : (s : StateValue) (party plugin : ℕ) (spec : SetSpec) (p
       registry = registry;
       waiting = waiting;
       arriving = arriving;
+      rooms = rooms;
       boxes = boxes;
       spare_closers = spare;
     })
-registered_sound s party plugin spec past journal registry waiting arriving boxes spare sound may items entries table waits arrives left
-    same_closers =
+registered_sound s party plugin spec past journal registry waiting arriving rooms given boxes spare sound may items entries table waits
+    arrives renewed fits left same_closers =
     let now : StateValue = record s {
       past = past;
       journal = journal;
       registry = registry;
       waiting = waiting;
       arriving = arriving;
+      rooms = rooms;
       boxes = boxes;
       spare_closers = spare;
     } in
+    let can = can_register s s plugin spec refl sound may.allowed in
+    let run = task_run s.task in
     let kept = registrations_keep_order s.task (Control party) plugin spec (stored_of s) (stored_of now) sound.order
     (may_stand s party (Register plugin spec) sound may) (record {
       past = items;
@@ -191,6 +257,9 @@ registered_sound s party plugin spec past journal registry waiting arriving boxe
       starts = sound.starts;
       boxes = omega (arith, fewer, taken_by s spec sound, left, sound.boxes);
       closers = omega (arith, long, same_closers, sound.closers);
+      rooms = subst (λ (xs : List Item). HasRooms run xs rooms) (sym items)
+          (subst (HasRooms run (Ordered (Control party) (Register plugin spec) ∷ s.past)) (sym renewed)
+          (register_rooms run (Control party) plugin spec s.past s.rooms given can.one can.room fits sound.rooms));
       failed = sound.failed;
     }
 

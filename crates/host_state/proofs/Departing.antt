@@ -24,6 +24,8 @@ use Rattle.kept_order.specs.Arriving.{arrivals}
 use Rattle.kept_order.proofs.Gone.{there_low}
 use Rattle.kept_order.proofs.Leaves.{leaves_keep_order}
 use Rattle.kept_order.proofs.Arrivals.{arrivals_stay}
+use Rattle.host_state.specs.Rooms.{HasRooms}
+use Rattle.host_state.proofs.RoomKeeping.{left_rooms}
 use Rattle.host_state.specs.State.{StateValue, IsSound, stored_of}
 use Rattle.host_state.specs.Tables.{rows_of, AreWide}
 use Rattle.host_state.proofs.Shelved.{parked_long, parked_wide, sets_have_rows}
@@ -97,6 +99,8 @@ module _ (was s : StateValue) (is : s ≡ was) (sound : IsSound s) (h : ℕ) (le
           ap (λ (r : Plugins). length r.plugins) table,
           length-map s.registry.table.plugins (without_hart h),
         );
+        rooms = subst (λ (xs : List Item). HasRooms (task_run s.task) xs s.rooms) (sym items)
+            (left_rooms (task_run s.task) h s.past s.rooms sound.rooms);
         failed = sound.failed;
       }
 

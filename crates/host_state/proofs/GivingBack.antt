@@ -24,6 +24,8 @@ use Rattle.run_order.specs.Laws.{with_place}
 use Rattle.kept_order.specs.Hearing.{specs_for}
 use Rattle.kept_order.specs.Returning.{with_some, set_back, IsReturned}
 use Rattle.kept_order.proofs.Backs.{Owes, gives_owed, backs_keep_order, backs_take_sets}
+use Rattle.host_state.specs.Rooms.{HasRooms}
+use Rattle.host_state.proofs.RoomKeeping.{back_rooms}
 use Rattle.host_state.specs.State.{StateValue, IsSound, stored_of}
 use Rattle.host_state.specs.Tables.{rows_of, row_at}
 use Rattle.host_state.proofs.Shown.{shown, shown_at, shown_rows, shown_width, shown_with}
@@ -161,6 +163,8 @@ module _ (was s : StateValue) (is : s ≡ was) (sound : IsSound s) (h plugin : �
           ap (λ (r : Plugins). length r.plugins) table,
           length-set s.registry.table.plugins (plugin - 1) (record p { owing = slice_set p.owing h false }),
         );
+        rooms = subst (λ (xs : List Item). HasRooms (task_run s.task) xs s.rooms) (sym items)
+            (back_rooms (task_run s.task) h plugin s.past s.rooms sound.rooms);
         failed = sound.failed;
       }
 

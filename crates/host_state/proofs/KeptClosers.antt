@@ -35,7 +35,7 @@ turned : (out : Bool) (notices : List Notice) → (if out then None else Some no
 turned true notices = refl
 turned false notices = refl
 
-closer_at : (run : Run) (past : List Item) (plugin : ℕ) → 1 ≤ plugin
+pub closer_at : (run : Run) (past : List Item) (plugin : ℕ) → 1 ≤ plugin
     → slice_index_or (closers_of run past) (plugin - 1) None
     ≡ there_if (is_installed (plugins run past) plugin) (is_closing_out run plugin past) (notices_of run plugin past)
 closer_at run past plugin one =

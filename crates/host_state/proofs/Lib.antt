@@ -13,6 +13,11 @@ pub mod Departing
 pub mod GivingBack
 pub mod Deserted
 pub mod Starting
+pub mod RoomKeeping
+pub mod Boxes
+pub mod Emptying
+pub mod SmallSets
+pub mod Outgoing
 pub mod Telling
 pub mod WholeTurns
 pub mod Finishing

@@ -1,9 +1,9 @@
 -- Tables of which one place changes.
-use Rattle.std.proofs.Common.{◌≡◌, ◌<◌, ◌∙◌, ℕ, List, [], length, map, refl, sym, ap}
+use Rattle.std.proofs.Common.{◌≡◌, ◌<◌, ◌∙◌, ℕ, List, [], length, sym, ap}
 use Rattle.std.specs.Prelude.{Vec, slice_set, slice_index_or}
 use Rattle.std.specs.Global.{Global}
 use Rattle.std.specs.Vec.{with_item}
-use Rattle.std.proofs.lemmas.List.{map-set, get_or-map, get_or_default}
+use Rattle.std.proofs.lemmas.List.{map-set, get_or-map}
 use Rattle.run_order.specs.Laws.{with_place}
 use Rattle.host_state.specs.Tables.{rows_of, row_at}
 

@@ -32,6 +32,8 @@ use Rattle.watcher_api.specs.Attachment.{opening}
 use Rattle.run_rules.specs.Guest.{plugins}
 use Rattle.run_rules.specs.Due.{start_orders}
 use Rattle.run_rules.specs.Legal.{Legal}
+use Rattle.host_state.specs.Rooms.{HasRooms, AddsRoom}
+use Rattle.host_state.proofs.RoomKeeping.{no_rooms, install_rooms}
 use Rattle.host_state.specs.Starting.{HasStarted}
 use Rattle.host_state.proofs.AllowedSets.{IsAttachable, install_attachable}
 use Rattle.host_state.specs.State.{StateValue, stored_of, IsWithinLimits, IsSound, IsCaughtUp}
@@ -64,6 +66,7 @@ pub record IsUntouched (s : StateValue) : Type 0 where
   pub parked : s.parked ≡ []
   pub harts : s.harts ≡ replicate s.task.machine.harts None
   pub closers : s.closers ≡ []
+  pub rooms : s.rooms ≡ []
   pub boxes : RACK_BOXES ≤ s.boxes
   pub spare_closers : PLUGINS_MOST ≤ s.spare_closers
   pub failed : s.failed ≡ replicate s.task.machine.harts false
@@ -106,6 +109,8 @@ untouched_is_sound s u =
       starts = u.services.count;
       boxes = omega (arith, boxes, u.boxes);
       closers = omega (arith, u.spare_closers);
+      rooms = subst (λ (xs : List Item). HasRooms (task_run s.task) xs s.rooms) (sym u.past)
+          (subst (HasRooms (task_run s.task) []) (sym u.rooms) (no_rooms (task_run s.task)));
       failed = ap length u.failed ∙ length-replicate s.task.machine.harts false;
     }
 
@@ -198,6 +203,7 @@ pub record IsStarted (origin : Origin) (spec : SetSpec) (old new : StateValue) :
   pub parked : new.parked ≡ old.parked ++ replicate old.task.machine.harts None ∷ []
   pub harts : new.harts ≡ old.harts
   pub closers : new.closers ≡ old.closers ++ Some [] ∷ []
+  pub rooms : AddsRoom old.task.machine.harts old.rooms new.rooms
   pub boxes : new.boxes + old.task.machine.harts * calling spec.subs ≡ old.boxes
   pub spare_closers : new.spare_closers + 1 ≡ old.spare_closers
   pub failed : new.failed ≡ old.failed
@@ -251,6 +257,10 @@ installed_is_sound old new origin spec sound legal s =
       starts = ap (λ (v : ServicesState). length v.starts) s.services ∙ sound.starts ∙ harts_same;
       boxes = omega (arith, table, taken, s.boxes, sound.boxes);
       closers = omega (arith, count, s.spare_closers, sound.closers);
+      rooms = subst (λ (t : Task). HasRooms (task_run t) new.past new.rooms) same
+          (subst (λ (xs : List Item). HasRooms run xs new.rooms) (sym s.past)
+          (subst (HasRooms run (Ordered origin (Install spec) ∷ old.past)) (sym s.rooms.is)
+          (install_rooms run origin spec old.past old.rooms s.rooms.room s.rooms.fits sound.rooms)));
       failed = ap length s.failed ∙ sound.failed ∙ harts_same;
     }
 

@@ -1,5 +1,5 @@
 -- The state as a closer that was told comes back.
-use Rattle.std.proofs.Common.{◌≡◌, ◌+◌, ◌-◌, ◌<◌, ◌≤◌, ◌∙◌, ℕ, true, List, [], ◌∷◌, ◌++◌, length, map, refl, sym, ap, subst, arith}
+use Rattle.std.proofs.Common.{◌≡◌, ◌-◌, ◌<◌, ◌≤◌, ◌∙◌, ℕ, true, List, [], ◌∷◌, ◌++◌, length, map, refl, sym, ap, subst, arith}
 use Rattle.std.proofs.Common.{Option, Some}
 use Rattle.std.specs.Prelude.{slice_set, option_map}
 use Rattle.std.proofs.lemmas.List.{length-map, length-set, map-set}
@@ -20,6 +20,8 @@ use Rattle.run_order.specs.InOrder.{task_run}
 use Rattle.kept_order.specs.Closing.{IsDone}
 use Rattle.kept_order.proofs.Dones.{dones_keep_order}
 use Rattle.kept_order.proofs.Openings.{closer}
+use Rattle.host_state.specs.Rooms.{HasRooms}
+use Rattle.host_state.proofs.RoomKeeping.{told_rooms}
 use Rattle.host_state.specs.State.{StateValue, IsSound, stored_of}
 
 -- the notices that a closer has once it was told
@@ -90,6 +92,8 @@ module _ (was s : StateValue) (is : s ≡ was) (sound : IsSound s) (party plugin
           ap (λ (r : Plugins). length r.plugins) table,
           length-set s.registry.table.plugins (plugin - 1) (record p { state = done_state p.state }),
         );
+        rooms = subst (λ (xs : List Item). HasRooms (task_run s.task) xs s.rooms) (sym items)
+            (told_rooms (task_run s.task) party plugin s.past s.rooms sound.rooms);
         failed = sound.failed;
       }
 

@@ -32,6 +32,8 @@ use Rattle.kept_order.proofs.Gone.{there_low}
 use Rattle.kept_order.proofs.Numbered.{all_given, AreNumbered}
 use Rattle.kept_order.proofs.Takes.{takes_keep_order, takes_add_sets}
 use Rattle.kept_order.proofs.Arrivals.{takes_arrive}
+use Rattle.host_state.specs.Rooms.{HasRooms}
+use Rattle.host_state.proofs.RoomKeeping.{got_rooms}
 use Rattle.host_state.specs.Tables.{rows_of, row_at}
 use Rattle.host_state.specs.State.{StateValue, IsSound, stored_of}
 use Rattle.host_state.specs.Taking.{IsTakenOut}
@@ -154,6 +156,7 @@ taken_out s h plugin past waiting arriving sound least most may is gone went =
       starts = sound.starts;
       boxes = sound.boxes;
       closers = sound.closers;
+      rooms = subst (λ (xs : List Item). HasRooms run xs s.rooms) (sym is) (got_rooms run h plugin s.past s.rooms sound.rooms);
       failed = sound.failed;
     }
 

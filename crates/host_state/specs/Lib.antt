@@ -1,5 +1,6 @@
 pub mod Tables
 pub mod Moving
+pub mod Rooms
 pub mod State
 pub mod Filters
 pub mod Taking
@@ -8,3 +9,4 @@ pub mod Asking
 pub mod Starting
 pub mod Ordering
 pub mod Registered
+pub mod Closing

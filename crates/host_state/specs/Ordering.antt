@@ -33,6 +33,7 @@ ChangesByOrder old new = new ≡ record old {
   arriving = new.arriving;
   parked = new.parked;
   closers = new.closers;
+  rooms = new.rooms;
   boxes = new.boxes;
   spare_closers = new.spare_closers;
 }

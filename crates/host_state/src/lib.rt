@@ -1,6 +1,7 @@
 //! What the harts of a run share: the guest's memory and services, the plug-ins, the journal, and the boxes on their way.
 #![tactic(auto)]
 
+pub use closing::Closing;
 pub use specs::Specs;
 pub use states::HostState;
 pub use tasks::Task;
@@ -17,6 +18,7 @@ mod ordering;
 mod reading;
 mod recording;
 mod returning;
+mod rooms;
 mod specs;
 mod states;
 mod summing;

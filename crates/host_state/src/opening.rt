@@ -16,6 +16,7 @@ ghost use Rattle.host_state.specs.Starting.{HasStarted};
 
 use crate::arrivals::{Arrival, arrivals_in, room_for_row};
 use crate::recording::{record_order, room_for_order};
+use crate::rooms::add_room;
 use crate::states::HostState;
 use crate::tasks::Task;
 use flat_model::limits::RACK_BOXES;
@@ -127,6 +128,7 @@ impl<W: Watcher, C: Closer<Held<W>>> HostState<W, C> {
         let kept = empty_row(alloc, harts)?;
         let failed = vec![in alloc; false; usize::from(harts)]?;
         Ok(HostState {
+            alloc,
             task,
             memory,
             services,
@@ -137,6 +139,7 @@ impl<W: Watcher, C: Closer<Held<W>>> HostState<W, C> {
             parked: Vec::new(alloc),
             kept,
             closers: Vec::new(alloc),
+            rooms: Vec::new(alloc),
             rack,
             failed,
             short: false,
@@ -162,6 +165,7 @@ impl<W: Watcher, C: Closer<Held<W>>> HostState<W, C> {
         self.waiting.push(row)?;
         self.parked.push(empty_row(alloc, harts)?)?;
         self.closers.push(spare_closer(&mut self.rack))?;
+        add_room(alloc, harts, &mut self.rooms)?;
         self.past = record_start(
             alloc,
             &mut self.registry,

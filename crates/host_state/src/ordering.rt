@@ -13,6 +13,7 @@ ghost use Rattle.host_state.specs.Ordering.{IsAsBefore, IsOfRegistry, IsWithoutM
 use crate::arrivals::{arrivals_in, room_for_row};
 use crate::opening::{empty_row, spare_closer};
 use crate::recording::{record_order, room_for_order};
+use crate::rooms::ClosingRoom;
 use crate::states::HostState;
 use flat_model::{NoMemory, Order, Origin, Refused, SetSpec};
 use plug_registry::OrderRefusal;
@@ -20,21 +21,25 @@ use std::alloc::Global;
 use watcher_api::{Closer, Held, Watcher};
 
 /// Takes the room of one plug-in more in each of these.
-fn room_for_one_more<A, B, D>(
+fn room_for_one_more<A, B, D, E>(
     waiting: &mut Vec<A>,
     parked: &mut Vec<B>,
     closers: &mut Vec<D>,
+    rooms: &mut Vec<E>,
 ) -> Result<(), NoMemory>
     ensures waiting { waiting.new.items ≡ waiting.old.items }
     ensures parked { parked.new.items ≡ parked.old.items }
     ensures closers { closers.new.items ≡ closers.old.items }
+    ensures rooms { rooms.new.items ≡ rooms.old.items }
     ensures waiting_room { OnOk result (vec_len waiting.new < vec_capacity waiting.new) }
     ensures parked_room { OnOk result (vec_len parked.new < vec_capacity parked.new) }
     ensures closers_room { OnOk result (vec_len closers.new < vec_capacity closers.new) }
+    ensures rooms_room { OnOk result (vec_len rooms.new < vec_capacity rooms.new) }
 {
     waiting.reserve(1)?;
     parked.reserve(1)?;
     closers.reserve(1)?;
+    rooms.reserve(1)?;
     Ok(())
 }
 
@@ -80,19 +85,23 @@ impl<W: Watcher, C: Closer<Held<W>>> HostState<W, C> {
           registry = self.new.registry;
           waiting = self.new.waiting;
           arriving = self.new.arriving;
+          rooms = self.new.rooms;
           boxes = self.new.boxes;
         } }
         ensures unchanged { OnErr result (IsAsBefore self.old self.new) }
     {
         let harts = self.task.harts();
+        let place = usize::from(plugin) - 1;
         let room = room_for_row(alloc, &spec, harts)?;
+        let closing = ClosingRoom::new(alloc, harts)?;
         let order = Order::Register {
             plugin,
             spec: spec.copied(alloc)?,
         };
         room_for_order(&mut self.registry, &mut self.journal, &order)?;
         let row = arrivals_in(room, plugin, &spec, harts, &mut self.rack);
-        self.waiting[usize::from(plugin) - 1] = row;
+        self.waiting[place] = row;
+        self.rooms[place] = closing;
         self.past = record_order(
             &mut self.registry,
             &mut self.journal,
@@ -118,6 +127,7 @@ impl<W: Watcher, C: Closer<Held<W>>> HostState<W, C> {
           arriving = self.new.arriving;
           parked = self.new.parked;
           closers = self.new.closers;
+          rooms = self.new.rooms;
           boxes = self.new.boxes;
           spare_closers = self.new.spare_closers;
         } }
@@ -127,15 +137,22 @@ impl<W: Watcher, C: Closer<Held<W>>> HostState<W, C> {
         let number = self.registry.count() + 1;
         let room = room_for_row(alloc, &spec, harts)?;
         let none_parked = empty_row(alloc, harts)?;
+        let closing = ClosingRoom::new(alloc, harts)?;
         let order = Order::Install {
             spec: spec.copied(alloc)?,
         };
-        room_for_one_more(&mut self.waiting, &mut self.parked, &mut self.closers)?;
+        room_for_one_more(
+            &mut self.waiting,
+            &mut self.parked,
+            &mut self.closers,
+            &mut self.rooms,
+        )?;
         room_for_order(&mut self.registry, &mut self.journal, &order)?;
         self.waiting
             .push_reserved(arrivals_in(room, number, &spec, harts, &mut self.rack));
         self.parked.push_reserved(none_parked);
         self.closers.push_reserved(spare_closer(&mut self.rack));
+        self.rooms.push_reserved(closing);
         self.past = record_order(
             &mut self.registry,
             &mut self.journal,

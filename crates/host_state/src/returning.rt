@@ -21,7 +21,7 @@ use flat_model::{Entry, Item};
 use watcher_api::{Attached, AttachedSet, Closer, Held, Watcher};
 
 /// The set that waits at a place, which is empty then; where none waits, the one that was with the hart.
-fn back_from<W: Watcher>(
+pub(crate) fn back_from<W: Watcher>(
     rows: &mut [Vec<Option<Arrival<W>>>],
     row: usize,
     place: usize,

@@ -1,6 +1,7 @@
 //! The state.
 
 use crate::arrivals::Arrival;
+use crate::rooms::ClosingRoom;
 use crate::tasks::Task;
 use baton_gate::Kept;
 use flat_model::{Item, Trace};
@@ -8,12 +9,14 @@ use guest_memory::Memory;
 use plug_registry::Registry;
 use run_journal::Journal;
 use rv_exec::{Hart, Services};
+use std::alloc::Global;
 use std::marker::Model;
 use watcher_api::{AttachedSet, Closer, Held, Rack, Watcher};
 
 /// What the harts of a run share. Its value is plain data, of which the log says all: each state is in order.
 #[derive(Drop)]
 pub struct HostState<W: Watcher, C: Closer<Held<W>>> {
+    pub(crate) alloc: Global,
     pub(crate) task: Task,
     pub(crate) memory: Memory,
     pub(crate) services: Services,
@@ -26,6 +29,8 @@ pub struct HostState<W: Watcher, C: Closer<Held<W>>> {
     // The harts that have left.
     pub(crate) kept: Vec<Option<Hart>>,
     pub(crate) closers: Vec<Option<C>>,
+    // By plug-in, for what its closer is told next.
+    pub(crate) rooms: Vec<ClosingRoom<W>>,
     // What no set has yet.
     pub(crate) rack: Rack<W, C>,
     pub(crate) failed: Vec<bool>,
@@ -51,6 +56,7 @@ impl<W: Watcher, C: Closer<Held<W>>> Model for HostState<W, C> {
       parked = map (λ row. row.items) s.parked.items;
       harts = s.kept.items;
       closers = map (option_map (λ c. map as_notice (C.notices c))) s.closers.items;
+      rooms = s.rooms.items;
       boxes = vec_len s.rack.watchers;
       spare_closers = vec_len s.rack.closers;
       failed = s.failed.items;
@@ -69,6 +75,7 @@ impl<W: Watcher, C: Closer<Held<W>>> Model for HostState<W, C> {
       parked = map (λ row. row.items) s.parked.items;
       harts = s.kept.items;
       closers = map (option_map (λ c. map as_notice (C.notices c))) s.closers.items;
+      rooms = s.rooms.items;
       boxes = vec_len s.rack.watchers;
       spare_closers = vec_len s.rack.closers;
       failed = s.failed.items;

@@ -1,7 +1,9 @@
 -- What becomes of the stored state where a party takes the closing of a plug-in, and where it has told the closer.
-use Rattle.std.specs.Prelude.{◌≡◌, ◌-◌, ℕ, true, List, [], ◌∷◌, ◌++◌, replicate, slice_set, slice_index_or, Option, Some, None}
+use Rattle.std.specs.Prelude.{◌≡◌, ◌-◌, ◌&&◌, ℕ, Bool, true, not, List, [], ◌∷◌, ◌++◌, replicate, slice_set, slice_index_or}
+use Rattle.std.specs.Prelude.{Option, Some, None, is_some}
 use Rattle.std.specs.Option.{option_or, option_map_or}
 use Rattle.std.specs.List.{flat_map, filter_map}
+use Rattle.flat_model.specs.declared.journals.Item.{Item}
 use Rattle.flat_model.specs.declared.journals.Item.TheVariants.{Took, Told}
 use Rattle.flat_model.specs.Log.{log}
 use Rattle.flat_model.specs.Registry.{plugin_of, after_done, is_complete}
@@ -76,3 +78,7 @@ abbrev pub DonesKeepOrder : Type 0
 DonesKeepOrder = (t : Task) (party plugin : ℕ) (old new : Stored) → InOrder t old
     → Legal (task_run t) (Told party plugin ∷ old.past) → StateRule (task_run t) (Told party plugin) old.past
     → IsTold t party plugin old new → IsDone t old new
+
+-- a plug-in is complete and its closing isn't out: a party may take it
+abbrev pub is_due : Run → ℕ → List Item → Bool
+is_due run plugin past = is_complete (plugins run past) plugin && not (is_some (taker plugin past))

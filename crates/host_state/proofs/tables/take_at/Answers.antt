@@ -1,4 +1,4 @@
-use Rattle.std.proofs.Common.{None, ap, ◌∙◌}
+use Rattle.std.proofs.Common.{None}
 use Rattle.host_state.proofs.Placing.{place_set}
 use Rattle.host_state.proofs.tables.take_at.Goals as goal
 

@@ -1,4 +1,4 @@
-use Rattle.std.proofs.Common.{◌≡◌, ◌≤◌, ℕ, length, sym, ap, subst, ◌∙◌, arith}
+use Rattle.std.proofs.Common.{length, ap, subst, arith}
 use Rattle.host_state.specs.State.{StateValue, IsSound}
 use Rattle.host_state.proofs.Gathering.{there_still, owes_still, same_count, more_attached, none_more, no_more, all_taken}
 use Rattle.host_state.proofs.states.HostState.attach.Goals as goal

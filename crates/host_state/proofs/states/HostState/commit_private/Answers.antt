@@ -1,4 +1,4 @@
-use Rattle.std.proofs.Common.{◌≡◌, true, refl, sym, subst, ap, ◌∙◌}
+use Rattle.std.proofs.Common.{◌≡◌, true, sym, subst}
 use Rattle.flat_model.specs.Log.{steps}
 use Rattle.flat_model.specs.Worlds.{hart_of}
 use Rattle.run_rules.specs.Legal.{Legal}

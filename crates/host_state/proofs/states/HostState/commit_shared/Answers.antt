@@ -1,8 +1,7 @@
-use Rattle.std.proofs.Common.{◌≡◌, ◌≤◌, ◌<◌, ◌∷◌, true, refl, sym, subst, ap, ◌∙◌, arith}
+use Rattle.std.proofs.Common.{◌≡◌, ◌≤◌, ◌<◌, ◌∷◌, true, sym, subst, ◌∙◌, arith}
 use Rattle.std.specs.Prelude.{ℕ}
 use Rattle.flat_model.specs.declared.journals.Item.TheVariants.{Step}
 use Rattle.flat_model.specs.Worlds.{hart_of}
-use Rattle.guest_memory.specs.Memory.{harts_of}
 use Rattle.run_rules.specs.Legal.{Legal}
 use Rattle.run_rules.specs.Places.{takes_all}
 use Rattle.run_order.specs.InOrder.{task_run}

@@ -1,4 +1,4 @@
-use Rattle.std.proofs.Common.{◌≡◌, ◌∷◌, ◌++◌, [], ◌∙◌, ◌+◌, ◌*◌, ℕ, List, Option, Some, None, replicate, vec_len, refl, ap, arith}
+use Rattle.std.proofs.Common.{◌≡◌, ◌∷◌, ◌++◌, [], ◌∙◌, ◌+◌, ◌*◌, ℕ, List, Option, Some, None, replicate, vec_len, refl, ap, subst, arith}
 use Rattle.flat_model.specs.declared.plugins.SetSpec.{SetSpec}
 use Rattle.flat_model.specs.declared.journals.Entry.{Entry}
 use Rattle.flat_model.specs.declared.journals.Item.TheVariants.{Ordered}
@@ -9,7 +9,8 @@ use Rattle.flat_model.specs.Acts.{calling}
 use Rattle.flat_model.specs.Log.{log}
 use Rattle.flat_model.specs.Registry.{Plugins, after_order}
 use Rattle.watcher_api.specs.Attachment.{Attachment, opening}
-use Rattle.host_state.proofs.Controlling.{may_control, may_stand, can_install}
+use Rattle.host_state.specs.Rooms.{IsRoomFor}
+use Rattle.host_state.proofs.Controlling.{may_control, may_stand, can_install, as_before, roomier_is_sound, same_map, on_err}
 use Rattle.host_state.proofs.Starting.{pushed, untold, installed_is_sound}
 use Rattle.host_state.proofs.states.HostState.install_by.Goals as goal
 
@@ -74,6 +75,11 @@ invariant_of-self-2 g c =
       closers = pushed _ c.self.inside.closers.items _ c.spare_closer.result _
           (c.push_reserved-3.ensures.items ∙ ap (λ rows. rows ++ c.spare_closer.result ∷ []) c.room_for_one_more.ensures.closers)
           (untold _ _ _ c.spare_closer.ensures.untold);
+      rooms = record {
+        room = c.in_ok-closing.closing;
+        fits = subst (λ (n : ℕ). IsRoomFor n c.in_ok-closing.closing) harts c.in_ok-closing.ensures.room;
+        is = c.push_reserved-4.ensures.items ∙ ap (λ rooms. rooms ++ c.in_ok-closing.closing ∷ []) c.room_for_one_more.ensures.rooms;
+      };
       boxes = omega (
         arith,
         c.arrivals_in.ensures.left,
@@ -83,3 +89,17 @@ invariant_of-self-2 g c =
       spare_closers = c.spare_closer.ensures.left ∙ ap (λ v. vec_len v) c.arrivals_in.ensures.closers;
       failed = refl;
     })
+
+pub invariant_of-self-in_err-room_for_order : goal.invariant_of-self-in_err-room_for_order
+invariant_of-self-in_err-room_for_order g c =
+    roomier_is_sound _ _ c.self.invariant (as_before _ _ _ _ _ _ _ _ _ refl c.room_for_order.ensures.table c.room_for_order.ensures.entries
+    (same_map _ _ _ c.room_for_one_more.ensures.waiting) (same_map _ _ _ c.room_for_one_more.ensures.waiting)
+    (same_map _ _ _ c.room_for_one_more.ensures.parked) (same_map _ _ _ c.room_for_one_more.ensures.closers)
+    c.room_for_one_more.ensures.rooms)
+
+pub returns-in_err-room_for_order-clause-unchanged : goal.returns-in_err-room_for_order-clause-unchanged
+returns-in_err-room_for_order-clause-unchanged g c =
+    on_err c.from_residual-in_err-room_for_order.result (as_before _ _ _ _ _ _ _ _ _ c.self.view_is c.room_for_order.ensures.table
+    c.room_for_order.ensures.entries (same_map _ _ _ c.room_for_one_more.ensures.waiting)
+    (same_map _ _ _ c.room_for_one_more.ensures.waiting) (same_map _ _ _ c.room_for_one_more.ensures.parked)
+    (same_map _ _ _ c.room_for_one_more.ensures.closers) c.room_for_one_more.ensures.rooms)

@@ -1,6 +1,7 @@
-use Rattle.std.proofs.Common.{◌∙◌, ◌≡◌, ◌+◌, ◌*◌, ℕ, List, Option, Some, None, replicate, vec_len, refl, ap, arith}
+use Rattle.std.proofs.Common.{◌∙◌, ◌≡◌, ◌+◌, ◌*◌, ℕ, List, Option, Some, None, replicate, vec_len, refl, ap, subst, arith}
 use Rattle.flat_model.specs.Acts.{calling}
 use Rattle.watcher_api.specs.Attachment.{Attachment, opening}
+use Rattle.host_state.specs.Rooms.{AddsRoom}
 use Rattle.host_state.proofs.Starting.{is_next, pushed, untold, started_is_sound, started_more}
 use Rattle.host_state.proofs.states.HostState.with_install.Goals as goal
 
@@ -64,6 +65,8 @@ invariant_of-self g c =
           (c.in_ok-empty_row.ensures.empty ∙ ap (λ (n : ℕ). replicate n None) c.harts-harts.ensures.harts);
       harts = refl;
       closers = pushed _ _ _ _ _ c.in_ok-push-3.ensures.items (untold _ _ _ c.spare_closer.ensures.untold);
+      rooms = subst (λ (n : ℕ). AddsRoom n c.self.inside.rooms.items c.add_room.new.rooms.items) c.harts-harts.ensures.harts
+          c.in_ok-add_room.ensures.added;
       boxes = omega (
         arith,
         c.in_ok-row.ensures.left,

@@ -27,6 +27,7 @@ invariant_of-result-4 g c =
       parked = map_none _ _ c.new-7.ensures.items;
       harts = c.in_ok-kept.ensures.empty;
       closers = map_none _ _ c.new-8.ensures.items;
+      rooms = c.new-9.ensures.items;
       boxes = c.requires.boxes;
       spare_closers = c.requires.closers;
       failed = c.in_ok-failed.ensures.items_if_clones_equal (λ y e. e) ∙ ap (λ (n : ℕ). replicate n false) c.from.ensures;
