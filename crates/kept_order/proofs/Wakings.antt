@@ -158,6 +158,6 @@ parked_harts_wake t h more past low others parked =
     record {
       asleep = λ still.
           parked_as m.image _ _ still (by_start m t.mode h (more ++ past) low) ∙ sym (parked_as m.image _ _ none (by_start m t.mode h past
-              low));
+          low));
       woken = all_woken m t.mode h more past others (λ start has. absurd cc);
     }
