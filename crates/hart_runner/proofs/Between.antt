@@ -1,10 +1,9 @@
 -- From what a runner knows between its holds to what it needs in a hold, and back.
-use Rattle.std.proofs.Common.{◌≡◌, ◌≢◌, ◌==◌, ◌++◌, ◌∷◌, [], ◌∙◌, ℕ, Bool, true, false, List, Option, Some, None, Result, Ok, Err}
+use Rattle.std.proofs.Common.{◌≡◌, ◌≢◌, ◌∷◌, [], ◌∙◌, ℕ, true, false, List, Option, Some, None, Result, Ok, Err}
 use Rattle.std.proofs.Common.{refl, sym, ap, subst, ne_eqb, arith, All}
 use Rattle.std.specs.Prelude.{IsSome, IfOk, MatchOption, slice_index_or}
 use Rattle.std.proofs.lemmas.Bool.{false≢true}
 use Rattle.std.proofs.lemmas.List.Elements.{All-head, All-tail}
-use Rattle.std.proofs.lemmas.Option.{same_Some}
 use Rattle.flat_model.specs.declared.plugins.Ask.{Ask}
 use Rattle.flat_model.specs.declared.plugins.SetSpec.{SetSpec}
 use Rattle.flat_model.specs.declared.journals.Item.{Item}
@@ -15,8 +14,8 @@ use Rattle.block_finder.specs.Block.{Stretch, IsBlock}
 use Rattle.host_state.specs.Moving.{IsPrivateTurn}
 use Rattle.hart_runner.specs.declared.going_ahead.Ahead.{Ahead}
 use Rattle.hart_runner.specs.Lists.{IsList}
-use Rattle.flat_model.specs.World.{HartState, Start}
-use Rattle.flat_model.specs.Worlds.{world, hart_of}
+use Rattle.flat_model.specs.World.{HartState}
+use Rattle.flat_model.specs.Worlds.{hart_of}
 use Rattle.baton_gate.specs.Logs.{GoesOn}
 use Rattle.watcher_api.specs.Attachment.{Attachment}
 use Rattle.run_rules.specs.Laws.{AreOfOthers}
@@ -179,21 +178,27 @@ module _ {W : Type 0} where
   still_done holds.GaveBack (Some new) seat t h seen now sits gone =
       let again : Sits t h now new = sits_again t h seen now seat new sits gone.what.1 gone.what.0.0 in
       record {
-        gone = regone h seat.no seen now (λ taken. IsStillPart holds.GaveBack t taken now seat (Some new)) (IsTurned Went t h now) sits.number
+        gone = regone h seat.no seen now (λ taken. IsStillPart holds.GaveBack t taken now seat (Some new)) (IsTurned Went t h now)
+            sits.number
             (λ taken is. (still_there t h now new again, is.0.1)) gone;
+        waits = λ e. absurd cc;
         placed = again;
       }
   still_done holds.Waits None seat t h seen now sits gone = absurd gone.what
   still_done holds.Waits (Some new) seat t h seen now sits gone =
       let again : Sits t h now new = sits_again t h seen now seat new sits gone.what.1 gone.what.0.0 in
       record {
-        gone = regone h seat.no seen now (λ taken. IsStillPart holds.Waits t taken now seat (Some new)) (IsTurned Waited t h now) sits.number
+        gone = regone h seat.no seen now (λ taken. IsStillPart holds.Waits t taken now seat (Some new)) (IsTurned Waited t h now)
+            sits.number
             (λ taken is. (still_there t h now new again, subst (λ (k : ℕ). GoesOn (IsGotBy k) taken now) again.number is.0.1)) gone;
+        waits = λ e. ap (λ (k : ℕ). (hart_of t.machine t.mode seen k).parked) (sym sits.number)
+            ∙ ap (λ (x : HartState). x.parked) (sym sits.seated.order.hart) ∙ gone.what.0.2;
         placed = again;
       }
   still_done holds.Leaves place seat t h seen now sits gone = record {
     gone = regone h seat.no seen now (λ taken. IsStillPart holds.Leaves t taken now seat place) (IsTurned turns.Left t h now) sits.number
         (λ taken is. subst (λ (k : ℕ). HasLeftThen k taken now) sits.number is.1) gone;
+    waits = λ e. absurd cc;
     placed = gone.what.0;
   }
 
@@ -205,7 +210,8 @@ module _ {W : Type 0} where
   done_by None now_place r hold t h seen now is sits gone = absurd sits
   done_by (Some seat) now_place r hold t h seen now is sits gone =
       still_done hold now_place seat t h seen now sits
-      (subst (λ (x : Result Hold NoMemory). IfOk x (λ x. HasGone seat.no seen now (λ taken. IsStillPart x t taken now seat now_place))) is gone)
+      (subst (λ (x : Result Hold NoMemory). IfOk x (λ x. HasGone seat.no seen now (λ taken. IsStillPart x t taken now seat now_place))) is
+      gone)
 
   -- lists of the seat's sets
   pub lists_again : (kept : List KeptList) (old new : Seat W) → KeepsLists old new → HasLists kept old → HasLists kept new
@@ -238,7 +244,8 @@ module _ {W : Type 0} where
   lists_by None now_place r hold o seen now is some gone kept are = absurd are
   lists_by (Some seat) now_place r hold None seen now is some gone kept are = absurd (false≢true some)
   lists_by (Some seat) now_place r hold (Some t) seen now is some gone kept are =
-      let done = subst (λ (x : Result Hold NoMemory). IfOk x (λ x. HasGone seat.no seen now (λ taken. IsStillPart x t taken now seat now_place)))
+      let done = subst (λ (x : Result Hold NoMemory). IfOk x (λ x. HasGone seat.no seen now (λ taken. IsStillPart x t taken now seat
+      now_place)))
       is (gone t refl) in
       still_lists hold now_place seat t done.taken now kept done.what are
 

@@ -1,5 +1,5 @@
 -- A state into which a hart has entered: its asks, its Backs and the sets that it took stand in the log.
-use Rattle.std.proofs.Common.{◌≡◌, ◌&&◌, ◌+◌, ◌-◌, ◌<◌, ◌≤◌, ◌++◌, ◌∙◌, ℕ, zero, suc, Bool, true, false, List, None}
+use Rattle.std.proofs.Common.{◌≡◌, ◌+◌, ◌-◌, ◌<◌, ◌≤◌, ◌∙◌, ℕ, zero, suc, true, false, List, None}
 use Rattle.std.proofs.Common.{refl, sym, ap, subst, arith, inl, inr, length, nat_le}
 use Rattle.std.specs.Prelude.{slice_index_or, replicate}
 use Rattle.std.proofs.lemmas.Bool.{cases_Bool, false≢true, ltb-true, leb-true, leb-false}
@@ -15,7 +15,7 @@ use Rattle.flat_model.specs.Log.{party, giver, journaled, total_steps}
 use Rattle.flat_model.specs.Registry.{Plugins, Plugin, plugin_of}
 use Rattle.flat_model.specs.World.{HartState}
 use Rattle.flat_model.specs.Worlds.{world}
-use Rattle.rv_exec.specs.Sharing.{ServicesState, HasRoom}
+use Rattle.rv_exec.specs.Sharing.{HasRoom}
 use Rattle.baton_gate.specs.Logs.{GoesOn}
 use Rattle.baton_gate.proofs.LogLemmas.{goes_nowhere, goes_on, goes_from}
 use Rattle.watcher_api.specs.Acting.{ask_of}
@@ -70,7 +70,8 @@ live_within r p one live =
           (sym (beyond r.plugins (p - 1) (omega (arith, leb-false p (length r.plugins) high)))) ∙ live))
     ]
 
-pub as_noted : (old new : StateValue) (h : ℕ) (hart : HartState) (attached : List Attachment) (filters : List (ℕ × SetSpec)) (noted : List Ask)
+pub as_noted : (old new : StateValue) (h : ℕ) (hart : HartState) (attached : List Attachment) (filters : List (ℕ × SetSpec)) (noted : List
+    Ask)
     → IsPrepared old new → InOrder new.task (stored_of new) → IsBack old.task h old.past hart attached filters noted
     → (p : ℕ) → 1 ≤ p → is_live (plugin_of new.registry.table p).state ≡ true
     → ask_of p noted ≡ waiting (task_run new.task) p h new.past
@@ -191,7 +192,8 @@ entered h first prepared asked returned now before filters sets specs rest room 
     record {
       own = goes_from is prepared.past first.past now.past
           (goes_on is (IsGotBy h) is prepared.past returned.past now.past
-          (goes_on (IsAskedBy h) (IsBackBy h) is prepared.past asked.past returned.past asks.asked backs.returned.backs (asked_own h) (back_own h))
+          (goes_on (IsAskedBy h) (IsBackBy h) is prepared.past asked.past returned.past asks.asked backs.returned.backs (asked_own h)
+          (back_own h))
           takes.gots (λ i own. own) (got_own h)) was;
       total = same_total (IsGotBy h) (got_still h) returned.past now.past takes.gots
           ∙ same_total (IsBackBy h) (back_still h) asked.past returned.past backs.returned.backs

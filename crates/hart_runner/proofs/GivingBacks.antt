@@ -1,5 +1,5 @@
 -- Backs that a hart gives one after the other.
-use Rattle.std.proofs.Common.{◌≡◌, ◌==◌, ◌&&◌, ◌||◌, ◌+◌, ◌<◌, ◌≤◌, ◌∷◌, ◌∙◌, ℕ, zero, suc, Bool, true, false, not, List, Option, None}
+use Rattle.std.proofs.Common.{◌≡◌, ◌==◌, ◌&&◌, ◌||◌, ◌+◌, ◌<◌, ◌≤◌, ◌∷◌, ◌∙◌, ℕ, zero, suc, Bool, true, false, not, List, Option}
 use Rattle.std.proofs.Common.{refl, sym, ap, subst, arith, inl, inr, length}
 use Rattle.std.specs.Prelude.{is_some}
 use Rattle.std.specs.List.{list_any, range_with_len}
@@ -167,7 +167,8 @@ none_of f a (suc n) none =
     ap (λ (b : Bool). b || list_any f (range_with_len (a + 1) n)) (none a (omega arith) (omega arith))
     ∙ none_of f (a + 1) n (λ k low high. none k (omega (arith, low)) (omega (arith, high)))
 
-pub all_returned : (old now : StateValue) (h n : ℕ) (sets : List Attachment) (specs : List (ℕ × SetSpec)) → ReturnsSoFar h n old now sets specs
+pub all_returned : (old now : StateValue) (h n : ℕ) (sets : List Attachment) (specs : List (ℕ × SetSpec)) → ReturnsSoFar h n old now sets
+    specs
     → n ≡ length (plugins (task_run old.task) old.past).plugins → owes_any (task_run now.task) h now.past ≡ false
 all_returned old now h n sets specs done number =
     let r = plugins (task_run now.task) now.past in

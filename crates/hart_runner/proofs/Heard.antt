@@ -1,14 +1,13 @@
 -- A hart whose boxes have heard its Turn is in order again.
-use Rattle.std.proofs.Common.{◌≡◌, ◌&&◌, ◌<◌, ◌≤◌, ◌∷◌, ◌∙◌, ℕ, zero, suc, Bool, true, false, List, Option, Some, None, Result, Ok, Err}
-use Rattle.std.proofs.Common.{refl, sym, ap, subst, arith, All}
-use Rattle.std.specs.Prelude.{IsSome, IfOk, OnOk, MatchOption}
+use Rattle.std.proofs.Common.{◌≡◌, ◌<◌, ◌≤◌, ◌∙◌, ℕ, zero, suc, List, Option, Some, None, Result, Ok}
+use Rattle.std.proofs.Common.{refl, sym, ap, subst}
+use Rattle.std.specs.Prelude.{IsSome, IfOk, MatchOption}
 use Rattle.std.proofs.lemmas.Bool.{false≢true}
 use Rattle.flat_model.specs.declared.events.Event.{Event}
 use Rattle.flat_model.specs.declared.plugins.Ask.{Ask}
 use Rattle.flat_model.specs.declared.plugins.Ask.TheVariants.{Stay}
 use Rattle.flat_model.specs.declared.plugins.SetSpec.{SetSpec}
 use Rattle.flat_model.specs.declared.journals.Item.{Item}
-use Rattle.flat_model.specs.declared.journals.Item.TheVariants.{Step}
 use Rattle.flat_model.specs.declared.refusals.NoMemory.{NoMemory}
 use Rattle.flat_model.specs.Image.{Program}
 use Rattle.flat_model.specs.Log.{steps}
@@ -23,8 +22,7 @@ use Rattle.watcher_api.specs.Acting.{acts_of, ask_of, walks_of, IsAbsent}
 use Rattle.watcher_api.specs.Attachment.{Attachment}
 use Rattle.instr_lists.specs.declared.kept_lists.KeptList.{KeptList}
 use Rattle.instr_lists.specs.Delivery.{acts_with, no_asks, each_walks}
-use Rattle.instr_lists.specs.Sorts.{LiesIn}
-use Rattle.run_rules.specs.Guest.{Run, plugins}
+use Rattle.run_rules.specs.Guest.{Run}
 use Rattle.run_rules.specs.Legal.{Legal, is_there}
 use Rattle.run_rules.specs.Places.{IsStateLog, is_with_hart}
 use Rattle.run_order.specs.Sets.{sets_for}
@@ -39,9 +37,9 @@ use Rattle.hart_runner.specs.declared.runners.Turned.TheVariants.{Went}
 use Rattle.hart_runner.specs.declared.seats.Seat.{Seat}
 use Rattle.hart_runner.specs.Holds.{HasTurned}
 use Rattle.hart_runner.specs.Lists.{AreLists}
-use Rattle.hart_runner.specs.Parts.{IsPart, IsStillPart, KeepsLists}
-use Rattle.hart_runner.specs.Seats.{IsSeated, HasWritten}
-use Rattle.hart_runner.specs.Turns.{HasGone, HasHeard, HasLists, IsAhead, IsAt, IsDone, IsTurned, MayHear, Sits, turned_of}
+use Rattle.hart_runner.specs.Parts.{IsPart, IsStillPart}
+use Rattle.hart_runner.specs.Seats.{IsSeated}
+use Rattle.hart_runner.specs.Turns.{HasGone, HasHeard, HasLists, IsAt, IsDone, IsTurned, MayHear, Sits, turned_of}
 use Rattle.hart_runner.proofs.Between.{lists_again, regone, still_done, still_lists}
 
 same_there : (run : Run) (h n : ℕ) (past : List Item) → is_there run h (steps h n past) ≡ is_there run h past
@@ -89,7 +87,7 @@ heard_seated t h past hart sets filters told after asked turned heard =
       quiet = λ parked. absurd (false≢true (sym turned.awake ∙ parked));
     })
 
-some_task : (o : Option Task) → IsSome o → (t : Task) × (o ≡ Some t)
+pub some_task : (o : Option Task) → IsSome o → (t : Task) × (o ≡ Some t)
 some_task None some = absurd (false≢true some)
 some_task (Some t) some = (t, refl)
 
@@ -140,6 +138,7 @@ module _ {W : Type 0} where
       record {
         gone = regone h old.no seen now (λ taken. IsPart holds.Turned t taken now block old (Some new)) (IsTurned Went t h now) sits.number
             (λ taken is. (ap (λ (k : ℕ). is_there (task_run t) k now) (sym number) ∙ again.seated.there, is.0.1)) gone;
+        waits = λ e. absurd cc;
         placed = again;
       }
 
@@ -168,7 +167,8 @@ module _ {W : Type 0} where
 
   pub sits_at : (o : Option Task) (h : ℕ) (seen : List Item) (place : Option (Seat W)) (seat mid : Seat W) → place ≡ Some seat
       → SitAll o h seen place → Ahead seat mid → mid.raw.kept ≡ seat.raw.kept → (t : Task) → o ≡ Some t → Sits t h seen mid
-  sits_at o h seen place seat mid is all same kept t e = sits_ahead t h seen seat mid same kept (at_seat (Sits t h seen) place seat is (all t e))
+  sits_at o h seen place seat mid is all same kept t e = sits_ahead t h seen seat mid same kept (at_seat (Sits t h seen) place seat is
+      (all t e))
 
   pub seat_sits : (o : Option Task) (h : ℕ) (seen : List Item) (place : Option (Seat W)) (seat : Seat W) → place ≡ Some seat
       → SitAll o h seen place → (t : Task) → o ≡ Some t → Sits t h seen seat
@@ -245,7 +245,8 @@ module _ {W : Type 0} where
       → (t : Task) → o ≡ Some t → IsDone (turned_of hold) t h seen now place
   rest_done o r hold h seen now block mid place is other all gone t e =
       still_done hold place mid t h seen now (all t e)
-      (regone mid.no mid.no seen now (λ taken. IsPart hold t taken now block mid place) (λ taken. IsStillPart hold t taken now mid place) refl
+      (regone mid.no mid.no seen now (λ taken. IsPart hold t taken now block mid place) (λ taken. IsStillPart hold t taken now mid place)
+      refl
       (λ taken part. part_still hold t taken now block mid place other part) (gone_at o r hold seen now block mid place is gone t e))
 
   pub rest_lists : (o : Option Task) (r : Result Hold NoMemory) (hold : Hold) (seen now : List Item) (block : Stretch)

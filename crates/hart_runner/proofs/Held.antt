@@ -1,7 +1,7 @@
 -- What a hart's part of a hold leaves.
-use Rattle.std.proofs.Common.{◌≡◌, ◌&&◌, ◌||◌, ◌+◌, ◌<◌, ◌≤◌, ◌%◌, ◌^◌, ◌++◌, ◌∷◌, [], ◌∙◌, ℕ, zero, suc, Bool, true, false, not, List}
+use Rattle.std.proofs.Common.{◌≡◌, ◌&&◌, ◌||◌, ◌+◌, ◌<◌, ◌≤◌, ◌%◌, ◌^◌, ◌∷◌, [], ◌∙◌, ℕ, zero, suc, Bool, true, false, not, List}
 use Rattle.std.proofs.Common.{Option, Some, None, refl, sym, ap, subst, arith, inl, inr, length}
-use Rattle.std.specs.Prelude.{ℤ, is_some, IsSome, replicate, slice_index_or, All}
+use Rattle.std.specs.Prelude.{ℤ, is_some, IsSome, replicate, All}
 use Rattle.std.specs.List.{list_all, range_with_len}
 use Rattle.std.specs.Cmp.Derive.{both_true}
 use Rattle.std.proofs.lemmas.Bool.{cases_Bool, false≢true}
@@ -13,16 +13,13 @@ use Rattle.flat_model.specs.Asks.{stays}
 use Rattle.flat_model.specs.declared.plugins.SetSpec.{SetSpec}
 use Rattle.flat_model.specs.declared.journals.Item.{Item}
 use Rattle.flat_model.specs.declared.journals.Item.TheVariants.{Step, Left}
-use Rattle.flat_model.specs.declared.limits.TheConstants.{BLOCK_WORDS}
 use Rattle.flat_model.specs.Log.{party, steps, journaled, total_steps}
 use Rattle.flat_model.specs.Registry.{plugin_of}
 use Rattle.flat_model.specs.Step.{steps_of}
 use Rattle.flat_model.specs.World.{HartState, Shared, World}
 use Rattle.flat_model.specs.Worlds.{world, hart_of}
 use Rattle.block_finder.specs.Block.{Stretch, IsBlock}
-use Rattle.baton_gate.specs.Logs.{GoesOn}
 use Rattle.baton_gate.proofs.LogLemmas.{goes_nowhere, goes_once, goes_on, goes_same}
-use Rattle.rv_exec.specs.Sharing.{ServicesState}
 use Rattle.watcher_api.specs.Acting.{ask_of}
 use Rattle.watcher_api.specs.Attachment.{Attachment}
 use Rattle.instr_lists.specs.Sorts.{LiesIn}
@@ -30,7 +27,7 @@ use Rattle.run_rules.specs.Guest.{Run, plugins}
 use Rattle.run_rules.specs.Heard.{is_live, waiting}
 use Rattle.run_rules.specs.Due.{start_orders, wanted}
 use Rattle.run_rules.specs.Laws.{MayTurn}
-use Rattle.run_rules.specs.Legal.{Legal, is_there, owes_any, asks_nothing, passes_nothing_by, is_idle, is_finished, may_leave}
+use Rattle.run_rules.specs.Legal.{Legal, is_there, owes_any, asks_nothing, is_idle, is_finished, may_leave}
 use Rattle.run_rules.specs.Places.{IsStateLog, is_with_hart}
 use Rattle.run_rules.proofs.Turns.{rest_true}
 use Rattle.run_order.specs.Sets.{sets_for}
@@ -43,10 +40,9 @@ use Rattle.kept_order.proofs.InBlocks.{events_lie_in_blocks}
 use Rattle.kept_order.proofs.Ranges.{all_at}
 use Rattle.kept_order.proofs.Rows.{turns_begin}
 use Rattle.host_state.specs.State.{StateValue, IsCaughtUp, stored_of}
-use Rattle.host_state.specs.Taking.{IsGotBy}
 use Rattle.hart_runner.specs.declared.holding.Hold.TheVariants.{Turned}
-use Rattle.hart_runner.specs.Holds.{IsHold, HasTurned, MayLeave, IsHeld}
-use Rattle.hart_runner.specs.Seats.{IsBack, IsSeated, HasEntered, HasWritten, Own}
+use Rattle.hart_runner.specs.Holds.{IsHold, MayLeave, IsHeld}
+use Rattle.hart_runner.specs.Seats.{IsSeated, HasEntered, Own}
 use Rattle.hart_runner.proofs.Entered.{quiet_noted, live_within}
 use Rattle.hart_runner.proofs.Logs.{never_less}
 use Rattle.hart_runner.proofs.Wants.{still_wants_none, same_starts}
@@ -224,7 +220,8 @@ pub turned_hold : (h n : ℕ) (first old new : StateValue) (sets : List Attachme
     → first.task.plan.script ≡ [] → IsHold h first new
 turned_hold h n first old new sets filters before after told entered is task plain = record {
   own = goes_on (λ i. party i ≡ h) (λ i. party i ≡ h) (λ i. party i ≡ h) first.past old.past new.past entered.own
-      (goes_same (λ i. party i ≡ h) old.past (steps h n old.past) new.past (own_steps h n old.past) (sym is.steps)) (λ i own. own) (λ i own. own);
+      (goes_same (λ i. party i ≡ h) old.past (steps h n old.past) new.past (own_steps h n old.past) (sym is.steps)) (λ i own. own) (λ i
+      own. own);
   few = omega (arith, entered.total, more_steps h n old.past, ap total_steps is.steps, is.most);
   caught_up = inr (ap (λ (t : Task). wanted (task_run t) new.past) is.task
       ∙ subst (λ (past : List Item). wanted (task_run old.task) past ≡ None) (sym is.steps)

@@ -6,3 +6,4 @@ pub mod Held
 pub mod Lists
 pub mod Between
 pub mod Heard
+pub mod Runs

@@ -1,5 +1,5 @@
 -- A plan without a script wants nothing more once its installs stand.
-use Rattle.std.proofs.Common.{◌≡◌, ◌∷◌, [], ◌∙◌, ℕ, zero, suc, List, Option, Some, None, refl, sym, ap}
+use Rattle.std.proofs.Common.{◌≡◌, [], ◌∙◌, ℕ, zero, suc, List, Option, Some, None, refl, ap}
 use Rattle.std.specs.Prelude.{slice_get, option_map}
 use Rattle.std.specs.Option.{option_or}
 use Rattle.flat_model.specs.declared.plugins.SetSpec.{SetSpec}
@@ -12,7 +12,8 @@ use Rattle.run_rules.specs.Guest.{Run}
 use Rattle.run_rules.specs.Due.{start_orders, wanted, owed_line, line_item}
 use Rattle.kept_order.proofs.Openings.{nothing_is_wanted}
 
-none_missing : (o : Option SetSpec) (other : Option Item) → option_or (option_map (λ spec. Ordered Start (Install spec)) o) other ≡ None → o ≡ None
+none_missing : (o : Option SetSpec) (other : Option Item) → option_or (option_map (λ spec. Ordered Start (Install spec)) o) other ≡ None →
+    o ≡ None
 none_missing None other is = refl
 none_missing (Some spec) other is = absurd cc
 

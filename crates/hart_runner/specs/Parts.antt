@@ -1,5 +1,5 @@
 -- What a hart's part of a hold makes of its seat.
-use Rattle.std.specs.Prelude.{◌≡◌, ◌<◌, ◌≤◌, ℕ, true, false, List, ◌∷◌, [], None, IsSome, Option, MatchOption, All, replicate}
+use Rattle.std.specs.Prelude.{◌≡◌, ◌<◌, ◌≤◌, ℕ, true, false, List, ◌∷◌, None, IsSome, Option, MatchOption, All, replicate}
 use Rattle.flat_model.specs.declared.plugins.Ask.TheVariants.{Stay}
 use Rattle.flat_model.specs.declared.journals.Item.{Item}
 use Rattle.flat_model.specs.declared.journals.Item.TheVariants.{Left}
@@ -52,13 +52,14 @@ module _ {W : Type 0} where
     pub rises : old.generation ≤ new.generation
     pub kept : new.raw.kept ≡ old.raw.kept
 
-  -- the seat after the hart's part: there is none once it has left
+  -- the seat after the hart's part: there is none once it has left, and only a parked hart waits
   abbrev pub IsStillPart : Hold → Task → List Item → List Item → Seat W → Option (Seat W) → Type 0
   IsStillPart Turned t taken past old now = ⊥
   IsStillPart GaveBack t taken past old now = MatchOption now ⊥ (λ seat.
       (IsSeated t seat.no past seat.hart seat.attached seat.specs seat.asks.first × HasWritten taken past) × KeepsLists old seat)
   IsStillPart Waits t taken past old now = MatchOption now ⊥ (λ seat.
-      (IsSeated t seat.no past seat.hart seat.attached seat.specs seat.asks.first × GoesOn (IsGotBy seat.no) taken past) × KeepsLists old seat)
+      (IsSeated t seat.no past seat.hart seat.attached seat.specs seat.asks.first × GoesOn (IsGotBy seat.no) taken past
+      × (old.hart.parked ≡ true)) × KeepsLists old seat)
   IsStillPart Leaves t taken past old now = (now ≡ None) × HasLeftThen old.no taken past
 
   abbrev pub IsPart : Hold → Task → List Item → List Item → Stretch → Seat W → Option (Seat W) → Type 0

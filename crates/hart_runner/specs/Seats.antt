@@ -1,11 +1,11 @@
 -- What a hart's runner knows between its holds, in a hold, and once its part of a hold is done.
-use Rattle.std.specs.Prelude.{◌≡◌, ◌<◌, ◌≤◌, ◌+◌, ◌%◌, ◌^◌, ℕ, true, false, List, None, length, replicate}
+use Rattle.std.specs.Prelude.{◌≡◌, ◌<◌, ◌≤◌, ℕ, true, false, List, None, length, replicate}
 use Rattle.flat_model.specs.declared.plugins.Ask.{Ask}
 use Rattle.flat_model.specs.declared.plugins.Ask.TheVariants.{Stay}
 use Rattle.flat_model.specs.declared.plugins.SetSpec.{SetSpec}
 use Rattle.flat_model.specs.declared.journals.Item.{Item}
 use Rattle.flat_model.specs.Log.{party, journaled, total_steps}
-use Rattle.flat_model.specs.Registry.{plugin_of, has_left}
+use Rattle.flat_model.specs.Registry.{plugin_of}
 use Rattle.flat_model.specs.World.{HartState}
 use Rattle.flat_model.specs.Worlds.{world, hart_of}
 use Rattle.baton_gate.specs.Logs.{GoesOn}
@@ -18,7 +18,7 @@ use Rattle.run_rules.specs.Due.{wanted}
 use Rattle.run_rules.specs.Legal.{is_there, owes_any, asks_nothing}
 use Rattle.run_rules.specs.Places.{is_with_hart, takes_all}
 use Rattle.run_order.specs.Sets.{sets_for}
-use Rattle.run_order.specs.InOrder.{Task, Running, RunnerInOrder, task_run}
+use Rattle.run_order.specs.InOrder.{Task, RunnerInOrder, task_run}
 use Rattle.kept_order.specs.Hearing.{specs_for}
 use Rattle.host_state.specs.State.{StateValue}
 
@@ -52,18 +52,18 @@ abbrev pub HasWritten : List Item → List Item → Type 0
 HasWritten seen past = length (journaled seen) < length (journaled past)
 
 -- in a hold, once asks, Backs and arrived sets are dealt with
-pub record HasEntered (no : ℕ) (seen : List Item) (s : StateValue) (attached : List Attachment) (filters : List (ℕ × SetSpec))
-    : Type 0 where
-  pub own : Own no seen s.past
-  pub total : total_steps s.past ≡ total_steps seen
-  pub there : is_there (task_run s.task) no s.past ≡ true
-  pub owes_none : owes_any (task_run s.task) no s.past ≡ false
-  pub asks_nothing : asks_nothing (task_run s.task) no s.past ≡ true
-  pub caught_up : wanted (task_run s.task) s.past ≡ None
-  pub takes_all : takes_all (task_run s.task) no s.past ≡ true
-  pub sets : attached ≡ sets_for is_with_hart (task_run s.task) no s.past
-  pub specs : filters ≡ specs_for (task_run s.task) no s.past
-  pub world : world s.task.machine s.task.mode s.past ≡ world s.task.machine s.task.mode seen
-  pub open_now : s.short ≡ false
-  pub room : 4 ≤ s.journal.spare
-  pub output : HasRoom s.services
+pub record HasEntered (no : ℕ) (seen : List Item) (s : StateValue) (attached : List Attachment) (filters : List (ℕ × SetSpec)) : Type 0
+  where
+    pub own : Own no seen s.past
+    pub total : total_steps s.past ≡ total_steps seen
+    pub there : is_there (task_run s.task) no s.past ≡ true
+    pub owes_none : owes_any (task_run s.task) no s.past ≡ false
+    pub asks_nothing : asks_nothing (task_run s.task) no s.past ≡ true
+    pub caught_up : wanted (task_run s.task) s.past ≡ None
+    pub takes_all : takes_all (task_run s.task) no s.past ≡ true
+    pub sets : attached ≡ sets_for is_with_hart (task_run s.task) no s.past
+    pub specs : filters ≡ specs_for (task_run s.task) no s.past
+    pub world : world s.task.machine s.task.mode s.past ≡ world s.task.machine s.task.mode seen
+    pub open_now : s.short ≡ false
+    pub room : 4 ≤ s.journal.spare
+    pub output : HasRoom s.services

@@ -4,6 +4,7 @@ use Rattle.flat_model.specs.declared.journals.Item.{Item}
 use Rattle.flat_model.specs.declared.journals.Item.TheVariants as items
 use Rattle.flat_model.specs.declared.limits.TheConstants.{BLOCK_WORDS}
 use Rattle.flat_model.specs.Log.{party, total_steps}
+use Rattle.flat_model.specs.Worlds.{hart_of}
 use Rattle.flat_model.specs.declared.plugins.Ask.TheVariants.{Stay}
 use Rattle.baton_gate.specs.Logs.{GoesOn}
 use Rattle.event_walk.specs.Matches.{classes_of}
@@ -95,9 +96,10 @@ module _ {W : Type 0} where
   IsPlaced Left place P = place ≡ None
   IsPlaced Waited place P = MatchOption place ⊥ P
 
-  -- what a turn makes of the log that was seen and of the seat
+  -- what a turn makes of the log that was seen and of the seat; only a hart that was parked waits
   pub record IsDone (turned : Turned) (t : Task) (h : ℕ) (seen now : List Item) (place : Option (Seat W)) : Type 0 where
     pub gone : HasGone h seen now (IsTurned turned t h now)
+    pub waits : turned ≡ Waited → (hart_of t.machine t.mode seen h).parked ≡ true
     pub placed : IsPlaced turned place (Sits t h now)
 
 -- a hold by what it came to

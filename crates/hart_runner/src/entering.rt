@@ -169,8 +169,8 @@ pub(crate) fn enter_parked<W: Watcher, C: Closer<Held<W>>>(
     // Each state is in order.
     let _ = state.task();
     let gave_back = give_back_all(state, seat.no, &mut seat.attached, &mut seat.specs);
-    let came = state.attach(seat.no, &mut seat.attached, &mut seat.specs);
-    if gave_back || came {
+    let arrived = state.attach(seat.no, &mut seat.attached, &mut seat.specs);
+    if gave_back || arrived {
         seat.generation = next;
     }
     Ok(gave_back)

@@ -1,11 +1,12 @@
 //! A hart's part of a hold.
 
-ghost use Rattle.std.specs.Prelude.{◌≡◌, ◌<◌, ◌≤◌, [], true, false, replicate, None, IfOk, OnOk, IsSome};
+ghost use Rattle.std.specs.Prelude.{◌≡◌, ◌≢◌, ◌<◌, ◌≤◌, [], true, false, replicate, None, IfOk, OnOk, IsSome};
 ghost use Rattle.flat_model.specs.declared.plugins.Ask.TheVariants.{Stay};
 ghost use Rattle.flat_model.specs.Worlds.{world, hart_of};
 ghost use Rattle.block_finder.specs.Block.{IsBlock};
 ghost use Rattle.host_state.specs.Moving.{IsPrivateTurn};
 ghost use Rattle.host_state.specs.State.{IsCaughtUp};
+ghost use Rattle.hart_runner.specs.declared.holding.Hold.TheVariants.{Waits};
 ghost use Rattle.hart_runner.specs.Seats.{IsBack};
 ghost use Rattle.hart_runner.specs.Holds.{IsAsleep, IsHold, IsStill, IsHeld};
 
@@ -51,6 +52,7 @@ pub(crate) fn hold_running<W: Watcher, C: Closer<Held<W>>>(
         seat.old.raw.events }
     ensures held { IfOk result (λ hold. IsHeld hold seat.new.no state.old.past state.new seat.new.hart seat.new.attached seat.new.specs
         seat.new.asks.first seat.new.raw.events block.now) }
+    ensures goes { IfOk result (λ hold. hold ≢ Waits) }
     ensures hold { IsHold seat.new.no state.old state.new }
     ensures lists { OnOk result (seat.new.generation ≡ seat.old.generation → seat.new.specs ≡ seat.old.specs) }
     ensures rises { OnOk result (seat.old.generation ≤ seat.new.generation) }
@@ -101,6 +103,7 @@ pub(crate) fn hold_ended<W: Watcher, C: Closer<Held<W>>>(
     requires ended { IsSome seat.old.hart.ending }
     ensures held { IfOk result (λ hold. IsStill hold seat.new.no state.old.past state.new seat.new.hart seat.new.attached seat.new.specs
         seat.new.asks.first) }
+    ensures goes { IfOk result (λ hold. hold ≢ Waits) }
     ensures hold { IsHold seat.new.no state.old state.new }
     ensures lists { OnOk result (seat.new.generation ≡ seat.old.generation → seat.new.specs ≡ seat.old.specs) }
     ensures rises { OnOk result (seat.old.generation ≤ seat.new.generation) }

@@ -3,6 +3,7 @@
 ghost use Rattle.std.specs.Prelude.{◌≡◌, ◌<◌, ◌∷◌, [], true, None, IfOk, OnOk, MatchOption};
 ghost use Rattle.flat_model.specs.declared.journals.Item.TheVariants.{Left};
 ghost use Rattle.host_state.specs.State.{IsCaughtUp};
+ghost use Rattle.hart_runner.specs.declared.holding.Hold.TheVariants.{Waits};
 ghost use Rattle.hart_runner.specs.Holds.{IsHold, IsStill, MayLeave};
 ghost use Rattle.hart_runner.specs.Parts.{ComesStill, ComesAhead, KeepsLists, IsStillPart, IsPart};
 
@@ -40,6 +41,7 @@ pub(crate) fn hold_still<W: Watcher, C: Closer<Held<W>>>(
     requires caught_up { IsCaughtUp state.old }
     ensures held { IfOk result (λ hold. IsStill hold seat.new.no state.old.past state.new seat.new.hart seat.new.attached seat.new.specs
         seat.new.asks.first) }
+    ensures waits { IfOk result (λ hold. hold ≡ Waits → seat.old.hart.parked ≡ true) }
     ensures hold { IsHold seat.old.no state.old state.new }
     ensures keeps { OnOk result (KeepsLists seat.old seat.new) }
 {
@@ -57,7 +59,8 @@ pub(crate) fn take_still_part<W: Watcher, C: Closer<Held<W>>>(
     requires comes { MatchOption place.old ⊥ (ComesStill state.old) }
     requires caught_up { IsCaughtUp state.old }
     requires plain { state.old.task.plan.script ≡ [] }
-    ensures part { MatchOption place.old ⊥ (λ seat. IfOk result (λ hold. IsStillPart hold state.new.task state.old.past state.new.past seat place.new)) }
+    ensures part { MatchOption place.old ⊥ (λ seat. IfOk result
+        (λ hold. IsStillPart hold state.new.task state.old.past state.new.past seat place.new)) }
     ensures hold { MatchOption place.old ⊥ (λ seat. IsHold seat.no state.old state.new) }
 {
     let Some(seat) = place else {

@@ -1,6 +1,7 @@
 //! The turns of a runner.
 
-ghost use Rattle.std.specs.Prelude.{◌≡◌, ◌+◌, ◌-◌, ◌^◌, ◌≤◌, ◌<◌, true, false, min, List, None, Some, IsSome, IfOk, OnOk, OnErr, MatchOption};
+ghost use Rattle.std.specs.Prelude.{◌≡◌, ◌+◌, ◌-◌, ◌^◌, ◌≤◌, ◌<◌, true, false, min, List};
+ghost use Rattle.std.specs.Prelude.{None, Some, IsSome, IfOk, OnOk, OnErr, MatchOption};
 ghost use Rattle.block_finder.specs.Caches.{MayServe};
 ghost use Rattle.run_order.specs.InOrder.{Task};
 ghost use Rattle.baton_gate.specs.Passes.{IsPassOf, known, seen, holds, carries};

@@ -80,7 +80,8 @@ deserted s sound out h low parked =
     let t = s.task in
     let run = task_run t in
     let count : length s.harts ≡ t.machine.harts =
-    ap (λ (harts : List (Option HartState)). length harts) sound.order.harts ∙ length-map-range_with_len (hart_kept t s.past) 0 t.machine.harts in
+    ap (λ (harts : List (Option HartState)). length harts) sound.order.harts ∙ length-map-range_with_len (hart_kept t s.past) 0
+    t.machine.harts in
     finished_by (run.guest.has_ended s.past h) (run.guest.is_over s.past) (run.guest.is_parked s.past h)
     (list_all (is_idle run s.past) (range_with_len 0 run.harts)) parked
     (λ quiet. all_of (is_idle run s.past) 0 run.harts (λ k least most.

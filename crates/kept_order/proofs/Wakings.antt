@@ -111,7 +111,8 @@ parked_as image hart (Some start) none by = absurd cc
 -- Where others add to the log, its start comes with their steps.
 
 abbrev Woken : Machine → Mode → ℕ → List Item → Type 0
-Woken m mode h past = (start : Start) → (world m mode past).shared.starts h ≡ Some start → hart_of m mode past h ≡ started_hart h m.harts start
+Woken m mode h past = (start : Start) → (world m mode past).shared.starts h ≡ Some start → hart_of m mode past h ≡ started_hart h m.harts
+    start
 
 wakes : (m : Machine) (k h : ℕ) (hart other : HartState) (shared : Shared) (o : Option Start) → shared.starts h ≡ o
     → (start : Start) → (step_of m k other shared).shared.starts h ≡ Some start → (o ≡ Some start → hart ≡ started_hart h m.harts start)
@@ -121,7 +122,8 @@ wakes m k h hart other shared (Some first) is start is' before =
     let has = step_keeps m k other shared h first is in
     before (sym has ∙ is')
 
-step_woken : (m : Machine) (mode : Mode) (k h : ℕ) (past : List Item) → (k == h) ≡ false → Woken m mode h past → Woken m mode h (Step k ∷ past)
+step_woken : (m : Machine) (mode : Mode) (k h : ℕ) (past : List Item) → (k == h) ≡ false → Woken m mode h past → Woken m mode h (Step k ∷
+    past)
 unfolding world step
 step_woken m mode k h past other woken = λ start has.
     let w = world m mode past in
@@ -155,6 +157,7 @@ parked_harts_wake t h more past low others parked =
     none_if_parked m.image (hart_of m t.mode past h) ((world m t.mode past).shared.starts h) (by_start m t.mode h past low) parked in
     record {
       asleep = λ still.
-          parked_as m.image _ _ still (by_start m t.mode h (more ++ past) low) ∙ sym (parked_as m.image _ _ none (by_start m t.mode h past low));
+          parked_as m.image _ _ still (by_start m t.mode h (more ++ past) low) ∙ sym (parked_as m.image _ _ none (by_start m t.mode h past
+          low));
       woken = all_woken m t.mode h more past others (λ start has. absurd cc);
     }

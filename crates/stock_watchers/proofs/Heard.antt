@@ -1,5 +1,6 @@
 -- The events with a key, and their number, after one event more.
-use Rattle.std.proofs.Common.{◌≡◌, ◌≢◌, ℕ, ◌∙◌, cond, List, [], ◌∷◌, ◌++◌, filter_map, slice_index_or, Option, Some, None, refl, ap, append-nil, eq-eqb}
+use Rattle.std.proofs.Common.{◌≡◌, ◌≢◌, ℕ, ◌∙◌, cond, List, [], ◌∷◌, ◌++◌}
+use Rattle.std.proofs.Common.{filter_map, slice_index_or, Option, Some, None, refl, ap, append-nil, eq-eqb}
 use Rattle.std.proofs.lemmas.Bool.{ne_eqb}
 use Rattle.std.proofs.lemmas.List.Elements.{filter-append}
 use Rattle.flat_model.specs.declared.events.Event.{Event}

@@ -1,3 +1,4 @@
+pub mod Inserting
 pub mod Heard
 pub mod Summing
 pub mod Tracing

@@ -1,9 +1,10 @@
 -- Sums by key after one event more, and the rows that they give.
-use Rattle.std.proofs.Common.{◌≡◌, ◌≢◌, ℕ, ◌∙◌, ◌+◌, ◌%◌, ◌^◌, false, List, [], ◌∷◌, ◌++◌, length, map, sum_by, Some, None, refl, ap, sym, subst, ⊎_elim, zero-add, arith, All}
-use Rattle.std.specs.BTreeMap.{BTreeMap, get, keys, insert_entry, Updates, IsOrdered}
+use Rattle.std.proofs.Common.{◌≡◌, ◌≢◌, ℕ, ◌∙◌, ◌+◌, ◌%◌, ◌^◌, false, List, [], ◌∷◌, ◌++◌}
+use Rattle.std.proofs.Common.{length, map, sum_by, Some, None, refl, ap, sym, subst, ⊎_elim, zero-add, arith, All}
+use Rattle.std.specs.BTreeMap.{BTreeMap, get, keys, Updates, IsOrdered}
 use Rattle.std.specs.BTreeSet.{insert_key}
 use Rattle.std.specs.Map.{keys_of}
-use Rattle.std.specs.Ordering.{nat_cmp, is_eq, match_ordering}
+use Rattle.std.specs.Ordering.{nat_cmp, is_eq}
 use Rattle.std.specs.declared.cmp.Ordering.{Ordering}
 use Rattle.std.specs.declared.cmp.Ordering.TheVariants.{Less, Equal, Greater}
 use Rattle.std.proofs.Math.Nat.{mod-add-mod}
@@ -22,19 +23,6 @@ use Rattle.stock_watchers.specs.Totals.{IsTotalled, first_of, second_of, total_o
 use Rattle.stock_watchers.proofs.Heard.{with_here, with_other, with_none}
 use Rattle.watcher_api.proofs.Keys.{ascending_push, ascending_pass}
 use Rattle.watcher_api.specs.Tallies.{tallied, ascending, key_of, row_of, with_key}
-
--- the keys of a map after an insert
-pub keys-insert_entry : {X : Type 0} (k : ℕ) (v : X) (es : List (ℕ × X))
-    → keys_of (insert_entry nat_cmp es k v) ≡ insert_key nat_cmp (keys_of es) k
-keys-insert_entry k v [] = refl
-keys-insert_entry {X} k v (e ∷ es) = by (nat_cmp k e.0) (keys-insert_entry k v es)
-  where
-    by : (order : Ordering) → keys_of (insert_entry nat_cmp es k v) ≡ insert_key nat_cmp (keys_of es) k
-        → keys_of (match_ordering order ((k, v) ∷ e ∷ es) ((e.0, v) ∷ es) (e ∷ insert_entry nat_cmp es k v))
-        ≡ match_ordering order (k ∷ e.0 ∷ keys_of es) (e.0 ∷ keys_of es) (e.0 ∷ insert_key nat_cmp (keys_of es) k)
-    by Less rest = refl
-    by Equal rest = refl
-    by Greater rest = ap (λ ks. e.0 ∷ ks) rest
 
 apart : (k q : ℕ) → k ≢ q → is_eq (nat_cmp k q) ≡ false
 apart k q differ = by (nat_cmp k q) refl

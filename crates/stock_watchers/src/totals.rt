@@ -28,14 +28,14 @@ pub(crate) fn add(
     ensures keys { OnOk result (keys totals.new ≡ insert_key nat_cmp (keys totals.old) key) }
     ensures refused { OnErr result (IsUnchanged totals.old totals.new) }
 {
-    let total = match totals.get(&key) {
-        Some(total) => Total {
+    if let Some(total) = totals.get_mut(&key) {
+        *total = Total {
             first: total.first.wrapping_add(first),
             second: total.second.wrapping_add(second),
-        },
-        None => Total { first, second },
-    };
-    totals.insert(key, total)?;
+        };
+        return Ok(());
+    }
+    totals.insert(key, Total { first, second })?;
     Ok(())
 }
 

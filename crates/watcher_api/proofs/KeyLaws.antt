@@ -1,5 +1,6 @@
 -- Numbers in ascending order, each once, and what it says of rows by key.
-use Rattle.std.proofs.Common.{◌≡◌, ℕ, ◌∙◌, ◌||◌, Bool, true, false, List, [], ◌∷◌, get_or, map, filter_map, fold, nat_eq, refl, ap, sym, subst, Contains}
+use Rattle.std.proofs.Common.{◌≡◌, ℕ, ◌∙◌, ◌||◌, Bool, true, false, List, [], ◌∷◌}
+use Rattle.std.proofs.Common.{get_or, map, filter_map, fold, nat_eq, refl, ap, sym, subst, Contains}
 use Rattle.std.specs.BTreeSet.{insert_key}
 use Rattle.std.specs.List.{list_any, AllByRecursion}
 use Rattle.std.specs.List.Sorted.{IsStrictlySortedBy, IsStrictlyIncreasing}

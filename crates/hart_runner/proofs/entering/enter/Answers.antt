@@ -16,8 +16,10 @@ returns-then-gave_back-clause-wrote g c =
     let asks = c.ask.ensures in
     let backs = c.give_back_all-gave_back.ensures in
     let takes = c.attach-came.ensures in
-    λ gave. wrote c.args.seat.now.no c.args.state.now c.prepare.new.state c.ask.new.self c.give_back_all-gave_back.new.state c.attach-came.new.self
-    c.prepare.ensures.rest (record { asked = asks.asked; rest = asks.rest; world = asks.world; room = asks.room }) takes.gots (backs.wrote gave)
+    λ gave. wrote c.args.seat.now.no c.args.state.now c.prepare.new.state c.ask.new.self c.give_back_all-gave_back.new.state
+    c.attach-came.new.self
+    c.prepare.ensures.rest (record { asked = asks.asked; rest = asks.rest; world = asks.world; room = asks.room }) takes.gots (backs.wrote
+    gave)
 
 pub returns-then-gave_back-clause-entered : goal.returns-then-gave_back-clause-entered
 returns-then-gave_back-clause-entered g c =
@@ -25,7 +27,8 @@ returns-then-gave_back-clause-entered g c =
     let asks = c.ask.ensures in
     let backs = c.give_back_all-gave_back.ensures in
     let takes = c.attach-came.ensures in
-    entered c.args.seat.now.no c.args.state.now c.prepare.new.state c.ask.new.self c.give_back_all-gave_back.new.state c.attach-came.new.self
+    entered c.args.seat.now.no c.args.state.now c.prepare.new.state c.ask.new.self c.give_back_all-gave_back.new.state
+    c.attach-came.new.self
     _ _ _ _ c.prepare.ensures.rest room.room room.output
     (record { asked = asks.asked; rest = asks.rest; world = asks.world; room = asks.room })
     (record { may = backs.may; returned = backs.returned; owes_none = backs.owes_none; room = backs.room })
@@ -36,8 +39,10 @@ returns-else-came-clause-wrote g c =
     let asks = c.ask.ensures in
     let backs = c.give_back_all-gave_back.ensures in
     let takes = c.attach-came.ensures in
-    λ gave. wrote c.args.seat.now.no c.args.state.now c.prepare.new.state c.ask.new.self c.give_back_all-gave_back.new.state c.attach-came.new.self
-    c.prepare.ensures.rest (record { asked = asks.asked; rest = asks.rest; world = asks.world; room = asks.room }) takes.gots (backs.wrote gave)
+    λ gave. wrote c.args.seat.now.no c.args.state.now c.prepare.new.state c.ask.new.self c.give_back_all-gave_back.new.state
+    c.attach-came.new.self
+    c.prepare.ensures.rest (record { asked = asks.asked; rest = asks.rest; world = asks.world; room = asks.room }) takes.gots (backs.wrote
+    gave)
 
 pub returns-else-came-clause-entered : goal.returns-else-came-clause-entered
 returns-else-came-clause-entered g c =
@@ -45,7 +50,8 @@ returns-else-came-clause-entered g c =
     let asks = c.ask.ensures in
     let backs = c.give_back_all-gave_back.ensures in
     let takes = c.attach-came.ensures in
-    entered c.args.seat.now.no c.args.state.now c.prepare.new.state c.ask.new.self c.give_back_all-gave_back.new.state c.attach-came.new.self
+    entered c.args.seat.now.no c.args.state.now c.prepare.new.state c.ask.new.self c.give_back_all-gave_back.new.state
+    c.attach-came.new.self
     _ _ _ _ c.prepare.ensures.rest room.room room.output
     (record { asked = asks.asked; rest = asks.rest; world = asks.world; room = asks.room })
     (record { may = backs.may; returned = backs.returned; owes_none = backs.owes_none; room = backs.room })

@@ -1,4 +1,4 @@
-use Rattle.std.proofs.Common.{◌≤◌, length, ap, arith}
+use Rattle.std.proofs.Common.{length, ap, arith}
 use Rattle.flat_model.specs.Registry.{Plugins}
 use Rattle.plug_registry.specs.State.{RegistryState}
 use Rattle.hart_runner.proofs.GivingBacks.{few_plugins}

@@ -1,4 +1,4 @@
-use Rattle.std.proofs.Common.{◌≡◌, ◌<◌, ◌∙◌, ap, sym, subst, arith}
+use Rattle.std.proofs.Common.{◌∙◌, ap, sym}
 use Rattle.flat_model.specs.World.{HartState}
 use Rattle.hart_runner.proofs.Held.{over_leaves, parked_seated, deserted_leaves}
 use Rattle.hart_runner.proofs.holding.hold_parked.Goals as goal

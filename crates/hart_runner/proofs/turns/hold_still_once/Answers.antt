@@ -14,7 +14,8 @@ take_still_part-held-requires-clause-comes g c =
     let b = c.deref_mut.ensures.value in
     comes_still c.args.place.now c.deref_mut.result.now c.args.pass.now.party (seen c.args.pass.now)
     (subst (λ (s : StateValue). InOrder s.task (stored_of s)) (c.deref.ensures ∙ sym b) c.task.ensures.order)
-    (subst (λ (s : StateValue). GoesOn (λ i. party i ≢ c.args.pass.now.party) (seen c.args.pass.now) s.past) (sym b) c.take-state.ensures.log)
+    (subst (λ (s : StateValue). GoesOn (λ i. party i ≢ c.args.pass.now.party) (seen c.args.pass.now) s.past) (sym b)
+    c.take-state.ensures.log)
     (c.requires.sits c.deref_mut.result.now.task (c.take-state.ensures.frame ∙ ap (λ (s : StateValue). Some s.task) (sym b)))
     c.requires.still
 
@@ -37,9 +38,11 @@ give-requires-clause-log g c =
 pub returns-clause-gone : goal.returns-clause-gone
 returns-clause-gone g c = λ t e.
     let b = c.deref_mut.ensures.value in
-    part_gone (λ hold u taken past seat. IsStillPart hold u taken past seat c.take_still_part-held.new.place) c.args.place.now _ c.args.pass.now.party (seen c.args.pass.now) _ t
+    part_gone (λ hold u taken past seat. IsStillPart hold u taken past seat c.take_still_part-held.new.place) c.args.place.now _
+    c.args.pass.now.party (seen c.args.pass.now) _ t
     c.deref_mut.result.now c.take_still_part-held.new.state
-    (subst (λ (s : StateValue). GoesOn (λ i. party i ≢ c.args.pass.now.party) (seen c.args.pass.now) s.past) (sym b) c.take-state.ensures.log)
+    (subst (λ (s : StateValue). GoesOn (λ i. party i ≢ c.args.pass.now.party) (seen c.args.pass.now) s.past) (sym b)
+    c.take-state.ensures.log)
     (ap (λ v. v.seen) c.give.ensures.pass.0)
     (same_Some t c.deref_mut.result.now.task (sym e ∙ c.take-state.ensures.frame ∙ ap (λ (s : StateValue). Some s.task) (sym b)))
     (c.requires.sits c.deref_mut.result.now.task (c.take-state.ensures.frame ∙ ap (λ (s : StateValue). Some s.task) (sym b)))

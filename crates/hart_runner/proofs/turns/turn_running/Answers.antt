@@ -1,4 +1,4 @@
-use Rattle.std.proofs.Common.{ap, sym, subst, ◌∙◌}
+use Rattle.std.proofs.Common.{ap, sym, subst}
 use Rattle.baton_gate.specs.Passes.{carries, seen}
 use Rattle.hart_runner.specs.declared.runners.Turned.{Turned}
 use Rattle.hart_runner.specs.Turns.{IsDone}

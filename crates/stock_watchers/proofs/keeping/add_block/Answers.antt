@@ -8,7 +8,8 @@ use Rattle.stock_watchers.proofs.keeping.add_block.Goals as goal
 pub returns-in_ok-add-in-Block : goal.returns-in_ok-add-in-Block
 returns-in_ok-add-in-Block c = λ heard is.
     totalled_push Hot c.args.totals.now c.add.new.totals heard c.args.e.now c.in-Block.pc 1 c.from.result
-    (ap block_key c.in-Block.is) refl (ap words c.in-Block.is ∙ sym c.from.ensures) c.in_ok-add-in-Block.ensures.added c.in_ok-add-in-Block.ensures.keys is
+    (ap block_key c.in-Block.is) refl (ap words c.in-Block.is ∙ sym c.from.ensures)
+    c.in_ok-add-in-Block.ensures.added c.in_ok-add-in-Block.ensures.keys is
 
 pub returns-in_default : goal.returns-in_default
 returns-in_default c = λ heard is.

@@ -1,6 +1,6 @@
 use Rattle.std.proofs.Common.{◌≡◌, Some}
 use Rattle.std.specs.Prelude.{MatchOption}
-use Rattle.baton_gate.specs.Passes.{IsPassOf, known, seen, holds, carries}
+use Rattle.baton_gate.specs.Passes.{IsPassOf, known, seen, carries}
 use Rattle.block_finder.specs.Caches.{MayServe}
 use Rattle.run_order.specs.InOrder.{Task}
 use Rattle.hart_runner.specs.Turns.{HasLists, Sits}
