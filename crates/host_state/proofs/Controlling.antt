@@ -200,8 +200,9 @@ can_register was s plugin spec is sound free =
     }
 
 pub registered_sound : (s : StateValue) (party plugin : ℕ) (spec : SetSpec) (past : List Item) (journal : JournalState)
-    (registry : RegistryState) (waiting : List (List (Option Attachment))) (arriving : List (List (Option SetSpec))) (rooms : List Room) (given : Room)
-    (boxes spare : ℕ) → IsSound s → MayControl s party (Register plugin spec) → past ≡ Ordered (Control party) (Register plugin spec) ∷ s.past
+    (registry : RegistryState) (waiting : List (List (Option Attachment))) (arriving : List (List (Option SetSpec)))
+    (rooms : List Room) (given : Room) (boxes spare : ℕ)
+    → IsSound s → MayControl s party (Register plugin spec) → past ≡ Ordered (Control party) (Register plugin spec) ∷ s.past
     → log journal.entries ≡ Ordered (Control party) (Register plugin spec) ∷ log s.journal.entries
     → registry.table ≡ after_order (Register plugin spec) s.registry.table
     → waiting ≡ slice_set s.waiting (plugin - 1) (replicate s.task.machine.harts (Some (opening plugin spec)))
