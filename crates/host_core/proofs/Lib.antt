@@ -1,1 +1,13 @@
-mod Installed
+pub mod Betweens
+pub mod FirstPasses
+pub mod FirstSeats
+pub mod Installed
+pub mod JoinedPasses
+pub mod LastStates
+pub mod LastTakes
+pub mod Loops
+pub mod MappedJobs
+pub mod Owed
+pub mod Planned
+pub mod SettledStates
+pub mod WholeLogs

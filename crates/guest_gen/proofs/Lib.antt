@@ -1,0 +1,4 @@
+pub mod Coding
+pub mod InRange
+pub mod Sections
+pub mod OneProgram

@@ -1,0 +1,4 @@
+pub mod Berths
+pub mod Runs
+pub mod Settling
+pub mod Stages

@@ -1,0 +1,11 @@
+pub mod Journaled
+pub mod Before
+pub mod Known
+pub mod Seats
+pub mod Lying
+pub mod Walks
+pub mod Steps
+pub mod Takes
+pub mod Entries
+pub mod Openings
+pub mod Breaking

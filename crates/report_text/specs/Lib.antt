@@ -1,0 +1,5 @@
+pub mod Merging
+pub mod Totals
+pub mod RowLines
+pub mod Report
+pub mod Places

@@ -1,0 +1,5 @@
+//! Words of the command line: tests alone.
+#![tactic(auto)]
+
+#[cfg(test)]
+mod command_tests;
