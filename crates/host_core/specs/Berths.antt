@@ -19,4 +19,3 @@ module _ {W C : Type 0} where
 
   abbrev pub party_at : Runner W C → ℕ
   party_at r = r.pass.party
-

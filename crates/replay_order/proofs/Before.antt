@@ -50,4 +50,3 @@ live_before run plugin h (x ∷ more) past one low others legal state with live 
     let keeps : KeepsSet run plugin h past (x ∷ log) = others_leave_sets_alone run plugin h (x ∷ more) past one low others legal state in
     let off = not_registered run plugin h x log (keeps.there ∙ with) in
     live_before run plugin h more past one low others.1 legal.0 state.0 with (item_live run plugin x log one legal.1 off live)
-

@@ -288,9 +288,11 @@ given_then : (m : Machine) (mode : Mode) (plan : Planned) (origin : Origin) (ord
 given_then m mode plan Start order past given = sym (same_wanted (run_of m mode plan) past) ∙ given
 given_then m mode plan (Script line party) order past given =
     (sym (same_wanted (run_of m mode plan) past) ∙ given.0, sym (same_in_time (run_of m mode plan) line past) ∙ given.1)
-given_then m mode plan (Asked h plugin) order past given =
-    (sym (same_passes (run_of m mode plan) past) ∙ given.0, ap (asked_order plugin) (sym (same_waiting m mode plan plugin h past))
-    ∙ given.1)
+given_then m mode plan (Asked h plugin) order past given = (
+  sym (same_passes (run_of m mode plan) past) ∙ given.0,
+  ap (asked_order plugin) (sym (same_waiting m mode plan plugin h past))
+      ∙ given.1,
+)
 given_then m mode plan (Control party) order past given = (
   sym (same_passes (run_of m mode plan) past) ∙ given.0,
   ap (λ (r : Plugins). is_hart r party) (sym (same_plugins (run_of m mode plan) past)) ∙ given.1,

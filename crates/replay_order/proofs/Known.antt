@@ -123,4 +123,3 @@ picked_absent test f plugin a (suc n) numbers without =
     one_absent (test a) (f a) (picked test f (a + 1) n) plugin
     (λ there e. false≢true (sym without ∙ ap test (sym e ∙ numbers a) ∙ there))
     (picked_absent test f plugin (a + 1) n numbers without)
-

@@ -69,8 +69,8 @@ pub returns-clause-ready : goal.returns-clause-ready
 returns-clause-ready g c k d low =
     let r = get_or c.in_ok-runners.runners.items k d in
     let seats = subst (λ (v : Program). MatchOption r.seat ⊥ (IsFirstSeat
-        (record { image = v; harts = c.args.harts; limit = c.args.limit }) c.args.mode r.pass.party))
-        c.in_ok-shared.ensures.cases (c.in_ok-runners.ensures.seats k d low) in
+    (record { image = v; harts = c.args.harts; limit = c.args.limit }) c.args.mode r.pass.party))
+    c.in_ok-shared.ensures.cases (c.in_ok-runners.ensures.seats k d low) in
     ready_first c.in_ok-gate.gate r.pass r.seat r.blocks r.lists (task g c) (c.args.harts + 1) (past g c)
     (runner_new c.in_ok-gate.gate (c.args.harts + 1) c.args.harts (past g c) (task g c) c.in_ok-gate.passes.items c.pop.new.self.items
     c.unwrap-own.result (new g c) (many g c) (popped g c) (λ r. r.pass) c.in_ok-runners.runners.items c.in_ok-runners.ensures.passes
