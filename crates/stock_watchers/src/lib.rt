@@ -2,10 +2,12 @@
 //! instructions. A box keeps what its rows need and no event.
 #![tactic(auto)]
 
+pub use racks::{StockRack, stock_rack};
 pub use stocks::Stock;
 
 mod keeping;
 mod numbers;
+mod racks;
 mod stocks;
 mod totals;
 mod traces;
