@@ -1,4 +1,3 @@
-pub mod Betweens
 pub mod FirstPasses
 pub mod FirstSeats
 pub mod Installed

@@ -1,0 +1,75 @@
+use Rattle.std.proofs.Common.{◌≡◌, ◌∙◌, refl, sym, ap, ℕ, List, [], Option, Some, None}
+use Rattle.call_inputs.specs.declared.refusals.Refusal.TheVariants.{Usage}
+use Rattle.command_words.specs.declared.commands.Command.{Command}
+use Rattle.command_words.specs.Commands.{CommandText, command_of, command_text, command_seen}
+use Rattle.command_words.specs.Commands as texts
+use Rattle.command_words.specs.Parts as parts
+use Rattle.top_call.specs.Answers.{starved, unasked, unbuilt, runs, lists_blocks, lists_instructions}
+use Rattle.top_call.proofs.Told.{refuses}
+use Rattle.top_call.proofs.outcomes.host.Goals as goal
+
+-- the command that was read is the one that the words ask for
+read_as : (words : List (List ℕ)) (r : Option Command) (a b : Command)
+    → command_seen r ≡ command_of words → r ≡ Some a → a ≡ b → command_of words ≡ Some (command_text b)
+read_as words r a b value is same = sym value ∙ ap command_seen is ∙ ap (λ (x : Command). command_seen (Some x)) same
+
+pub returns-in-Err-clause-answers : goal.returns-in-Err-clause-answers
+returns-in-Err-clause-answers g c =
+    rw (c.without_state.ensures.status, c.without_state.ensures.none, c.refuse_for_memory.ensures.status)
+    (starved refl c.refuse_for_memory.ensures.told (record { same = refl; faultless = refl }) (record { same = refl; faultless = refl }))
+
+pub returns-in_default-clause-answers : goal.returns-in_default-clause-answers
+returns-in_default-clause-answers g c =
+    rw (c.without_state-in_default.ensures.status, c.without_state-in_default.ensures.none)
+    (unasked c.refuse.result (sym c.in-Ok.ensures.value ∙ ap command_seen c.in_default.is) refl
+    (refuses None [] Usage _ _ _ c.refuse.result refl c.refuse.ensures.told (record { same = refl; faultless = refl })
+    (record { same = refl; faultless = refl })))
+
+pub returns-in-Run-default-None-default-default-default-clause-answers :
+    goal.returns-in-Run-default-None-default-default-default-clause-answers
+returns-in-Run-default-None-default-default-default-clause-answers g c =
+    runs c.in-Run-default-None-default-default-default.options (parts.text_seen c.in-Run-default-None-default-default-default.journal) c.in-Run-default-None-default-default-default.file.now (parts.texts_seen c.in-Run-default-None-default-default-default.plugins.items) c.run.result.status
+    c.run.result.state
+    (read_as _ _ _ _ c.in-Ok.ensures.value c.in-Some.is c.in-Run-default-None-default-default-default.is
+    ∙ ap (λ (s : Option (List ℕ)). Some (texts.Run c.in-Run-default-None-default-default-default.options s (parts.text_seen c.in-Run-default-None-default-default-default.journal) c.in-Run-default-None-default-default-default.file.now (parts.texts_seen c.in-Run-default-None-default-default-default.plugins.items)))
+    (ap parts.text_seen c.in-Run-default-None-default-default-default.script-is))
+    (rw (c.deref.ensures.value) at c.run.ensures.answers)
+
+pub returns-in-Run-default-Some-default-default-default-clause-answers :
+    goal.returns-in-Run-default-Some-default-default-default-clause-answers
+returns-in-Run-default-Some-default-default-default-clause-answers g c =
+    rw (c.without_state-in-Run-default-Some-default-default-default.ensures.status, c.without_state-in-Run-default-Some-default-default-default.ensures.none)
+    (unbuilt _ c.refuse-in-Run-default-Some-default-default-default.result
+    (read_as _ _ _ _ c.in-Ok.ensures.value c.in-Some.is c.in-Run-default-Some-default-default-default.is
+    ∙ ap (λ (s : Option (List ℕ)). Some (texts.Run c.in-Run-default-Some-default-default-default.options s (parts.text_seen c.in-Run-default-Some-default-default-default.journal) c.in-Run-default-Some-default-default-default.file.now (parts.texts_seen c.in-Run-default-Some-default-default-default.plugins.items)))
+    (ap parts.text_seen c.in-Run-default-Some-default-default-default.script-is)) tt refl
+    (refuses None [] Usage _ _ _ c.refuse-in-Run-default-Some-default-default-default.result refl c.refuse-in-Run-default-Some-default-default-default.ensures.told
+    (record { same = refl; faultless = refl }) (record { same = refl; faultless = refl })))
+
+pub returns-in-Blocks-clause-answers : goal.returns-in-Blocks-clause-answers
+returns-in-Blocks-clause-answers g c =
+    rw (c.without_state-in-Blocks.ensures.status, c.without_state-in-Blocks.ensures.none)
+    (lists_blocks c.in-Blocks.file.now c.list.result
+    (read_as _ _ _ _ c.in-Ok.ensures.value c.in-Some.is c.in-Blocks.is)
+    c.list.ensures.answers)
+
+pub returns-in-Disas-clause-answers : goal.returns-in-Disas-clause-answers
+returns-in-Disas-clause-answers g c =
+    rw (c.without_state-in-Disas.ensures.status, c.without_state-in-Disas.ensures.none)
+    (lists_instructions c.in-Disas.file.now c.list-in-Disas.result
+    (read_as _ _ _ _ c.in-Ok.ensures.value c.in-Some.is c.in-Disas.is)
+    c.list-in-Disas.ensures.answers)
+
+pub returns-in-Replay-clause-answers : goal.returns-in-Replay-clause-answers
+returns-in-Replay-clause-answers g c =
+    rw (c.without_state-in-Replay.ensures.status, c.without_state-in-Replay.ensures.none)
+    (unbuilt _ c.refuse-in-Replay.result (read_as _ _ _ _ c.in-Ok.ensures.value c.in-Some.is c.in-Replay.is) tt refl
+    (refuses None [] Usage _ _ _ c.refuse-in-Replay.result refl c.refuse-in-Replay.ensures.told
+    (record { same = refl; faultless = refl }) (record { same = refl; faultless = refl })))
+
+pub returns-in-Generated-clause-answers : goal.returns-in-Generated-clause-answers
+returns-in-Generated-clause-answers g c =
+    rw (c.without_state-in-Generated.ensures.status, c.without_state-in-Generated.ensures.none)
+    (unbuilt _ c.refuse-in-Generated.result (read_as _ _ _ _ c.in-Ok.ensures.value c.in-Some.is c.in-Generated.is) tt refl
+    (refuses None [] Usage _ _ _ c.refuse-in-Generated.result refl c.refuse-in-Generated.ensures.told
+    (record { same = refl; faultless = refl }) (record { same = refl; faultless = refl })))

@@ -1,0 +1,7 @@
+pub mod Sinks
+pub mod Files
+pub mod Commands
+pub mod Telling
+pub mod Refusals
+pub mod Ends
+pub mod Answers
