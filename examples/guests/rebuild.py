@@ -4,7 +4,8 @@
     rebuild.py
 
 Writes NAME.elf, NAME.out where a guest writes, and the part of expected.txt that QEMU judges: statuses, steps, blocks
-and endings. The part by hand stays as it is, and so do its outputs. Needs Debian's gcc-riscv64-unknown-elf,
+and endings. The part by hand stays as it is, and so do its outputs. The guests of several harts, in several/, are
+built alone: QEMU has no harts for them, and checks/harts.py knows what each writes. Needs Debian's gcc-riscv64-unknown-elf,
 picolibc-riscv64-unknown-elf and qemu-user, and says which is missing.
 """
 
@@ -55,8 +56,8 @@ def missing():
 def build(source):
     own = LINKED.get(source.name) or (FREESTANDING if source.suffix == ".c" else ASSEMBLED)
     file = source.stem + ".elf"
-    subprocess.run([COMPILER, *COMMON, *own, "-o", file, source.name], check=True, cwd=HERE)
-    subprocess.run([STRIP, "-R", ".comment", file], check=True, cwd=HERE)
+    subprocess.run([COMPILER, *COMMON, *own, "-o", file, source.name], check=True, cwd=source.parent)
+    subprocess.run([STRIP, "-R", ".comment", file], check=True, cwd=source.parent)
 
 
 def record(name):
@@ -82,11 +83,12 @@ def main():
     by_hand = blocks.BY_HAND + table.read_text().partition(blocks.BY_HAND)[2]
     hand_names = {line.split()[0] for line in by_hand.splitlines() if line and not line.startswith("#")}
     sources = [source for source in sorted(HERE.glob("*.[cS]")) if source.name not in SHARED]
-    for source in sources:
+    several = sorted((HERE / "several").glob("*.c"))
+    for source in sources + several:
         build(source)
     rows = [record(source.stem) for source in sources if source.stem not in hand_names]
     table.write_text(HEAD + "".join(rows) + "\n" + by_hand)
-    print(f"rebuild: {len(sources)} guests built, {len(rows)} recorded")
+    print(f"rebuild: {len(sources) + len(several)} guests built, {len(rows)} recorded")
     return 0
 
 

@@ -1,6 +1,6 @@
 //! A cache of blocks.
 
-ghost use Rattle.std.specs.Prelude.{◌≡◌, ◌%◌, None, IfOk};
+ghost use Rattle.std.specs.Prelude.{◌≡◌, ◌%◌, None, IfOk, IfSome};
 ghost use Rattle.std.specs.Borrow.{sem};
 ghost use Rattle.block_finder.specs.Block.{IsBlock};
 ghost use Rattle.block_finder.specs.Caches.{MayServe};
@@ -56,5 +56,15 @@ impl BlockCache {
         self.serves = self.serves.before(image);
         let place = self.kept.place(image, pc)?;
         Ok(&self.kept.blocks[usize::from(place)])
+    }
+
+    /// The block at `pc`, as `find` gives it, where the cache keeps it. It finds none, and takes no memory.
+    #[inline]
+    pub fn kept(&self, image: &Image, pc: u64) -> Option<&Block>
+        requires serves { MayServe self.now image.now }
+        ensures block { IfSome result (λ block. IsBlock image.now pc block.now) }
+    {
+        let place = self.kept.kept_place(pc)?;
+        Some(&self.kept.blocks[usize::from(place)])
     }
 }

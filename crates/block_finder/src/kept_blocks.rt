@@ -1,6 +1,6 @@
 //! The blocks that a cache keeps, and the ways to their places.
 
-ghost use Rattle.std.specs.Prelude.{◌≡◌, ◌<◌, ◌≤◌, ◌%◌, [], true, length, IfOk, vec_len};
+ghost use Rattle.std.specs.Prelude.{◌≡◌, ◌<◌, ◌≤◌, ◌%◌, [], true, length, IfOk, IfSome, vec_len};
 ghost use Rattle.block_finder.specs.Caches.{AreOf, stands_at};
 
 use crate::blocks::Block;
@@ -76,6 +76,22 @@ impl KeptBlocks {
         };
         self.guesses[slot(pc)] = place;
         Ok(place)
+    }
+
+    /// The place of the block at `pc`, where it is kept. It finds none, and changes nothing.
+    #[inline]
+    pub(crate) fn kept_place(&self, pc: u64) -> Option<u16>
+        ensures stands { IfSome result (λ place. stands_at pc place self.now.blocks.items ≡ true) }
+    {
+        let guessed = self.guesses[slot(pc)];
+        if self.has(guessed, pc) {
+            return Some(guessed);
+        }
+        let placed = self.places.peek(&pc).copied()?;
+        if self.has(placed, pc) {
+            return Some(placed);
+        }
+        None
     }
 
     /// Finds the block at `pc` and keeps it.

@@ -10,7 +10,7 @@ use Rattle.flat_model.specs.declared.journals.Item.{Item}
 use Rattle.flat_model.specs.declared.refusals.NoMemory.{NoMemory}
 use Rattle.flat_model.specs.Image.{Program}
 use Rattle.flat_model.specs.Log.{party}
-use Rattle.block_finder.specs.Block.{Stretch, IsBlock}
+use Rattle.block_finder.specs.Block.{IsBlock}
 use Rattle.host_state.specs.Moving.{IsPrivateTurn}
 use Rattle.hart_runner.specs.declared.going_ahead.Ahead.{Ahead}
 use Rattle.hart_runner.specs.Lists.{IsList}
@@ -250,11 +250,11 @@ module _ {W : Type 0} where
       still_lists hold now_place seat t done.taken now kept done.what are
 
   -- a seat whose hart has gone ahead
-  pub comes_ahead : (place : Option (Seat W)) (s : StateValue) (h : ℕ) (seen : List Item) (ahead : Ahead) (block : Stretch)
+  pub comes_ahead : (place : Option (Seat W)) (s : StateValue) (h : ℕ) (seen : List Item) (ahead : Ahead)
       → InOrder s.task (stored_of s) → GoesOn (λ i. party i ≢ h) seen s.past → MatchOption place ⊥ (Sits s.task h seen)
-      → MatchOption place ⊥ (λ seat. IsAhead seat ahead block) → MatchOption place ⊥ (λ seat. ComesAhead s seat ahead block)
-  comes_ahead None s h seen ahead block order since sits may = sits
-  comes_ahead (Some seat) s h seen ahead block order since sits may =
+      → MatchOption place ⊥ (λ seat. IsAhead seat ahead) → MatchOption place ⊥ (λ seat. ComesAhead s seat ahead)
+  comes_ahead None s h seen ahead order since sits may = sits
+  comes_ahead (Some seat) s h seen ahead order since sits may =
       record {
         back = back_so s seat.no seen seat.hart seat.attached seat.specs seat.asks.first order
             (ahead_of h seat.no seen s.past sits.number since) sits.seated;
@@ -262,7 +262,7 @@ module _ {W : Type 0} where
         running = may.running;
         begins = sits.seated.begins may.running;
         below = sits.seated.below may.running;
-        block = subst (λ (x : Program). IsBlock x seat.hart.pc block) sits.image may.is;
+        image = sits.image;
         ran = subst (λ (y : Program × ℕ). IsPrivateTurn y.0 y.1 seat.no ahead.ran seat.hart ahead.hart seat.raw.events)
             (λ i. (sits.image i, sits.limit i)) may.ran;
       }

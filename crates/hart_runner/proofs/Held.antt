@@ -1,5 +1,5 @@
 -- What a hart's part of a hold leaves.
-use Rattle.std.proofs.Common.{◌≡◌, ◌&&◌, ◌||◌, ◌+◌, ◌<◌, ◌≤◌, ◌%◌, ◌^◌, ◌∷◌, [], ◌∙◌, ℕ, zero, suc, Bool, true, false, not, List}
+use Rattle.std.proofs.Common.{◌≡◌, ◌&&◌, ◌||◌, ◌+◌, ◌<◌, ◌≤◌, ◌%◌, ◌++◌, ◌∷◌, [], ◌∙◌, ℕ, zero, suc, Bool, true, false, not, List}
 use Rattle.std.proofs.Common.{Option, Some, None, refl, sym, ap, subst, arith, inl, inr, length}
 use Rattle.std.specs.Prelude.{ℤ, is_some, IsSome, replicate, All}
 use Rattle.std.specs.List.{list_all, range_with_len}
@@ -18,29 +18,28 @@ use Rattle.flat_model.specs.Registry.{plugin_of}
 use Rattle.flat_model.specs.Step.{steps_of}
 use Rattle.flat_model.specs.World.{HartState, Shared, World}
 use Rattle.flat_model.specs.Worlds.{world, hart_of}
-use Rattle.block_finder.specs.Block.{Stretch, IsBlock}
 use Rattle.baton_gate.proofs.LogLemmas.{goes_nowhere, goes_once, goes_on, goes_same}
 use Rattle.watcher_api.specs.Acting.{ask_of}
 use Rattle.watcher_api.specs.Attachment.{Attachment}
-use Rattle.instr_lists.specs.Sorts.{LiesIn}
 use Rattle.run_rules.specs.Guest.{Run, plugins}
 use Rattle.run_rules.specs.Heard.{is_live, waiting}
 use Rattle.run_rules.specs.Due.{start_orders, wanted}
 use Rattle.run_rules.specs.Laws.{MayTurn}
 use Rattle.run_rules.specs.Legal.{Legal, is_there, owes_any, asks_nothing, is_idle, is_finished, may_leave}
-use Rattle.run_rules.specs.Places.{IsStateLog, is_with_hart}
+use Rattle.run_rules.specs.Places.{is_with_hart}
 use Rattle.run_rules.proofs.Turns.{rest_true}
 use Rattle.run_order.specs.Sets.{sets_for}
 use Rattle.run_order.specs.InOrder.{Task, InOrder, task_run}
 use Rattle.kept_order.specs.Hearing.{specs_for}
-use Rattle.kept_order.specs.Lying.{GoesInside}
 use Rattle.kept_order.proofs.Asked.{waits_dead}
 use Rattle.kept_order.proofs.Gone.{there_low}
-use Rattle.kept_order.proofs.InBlocks.{events_lie_in_blocks}
 use Rattle.kept_order.proofs.Ranges.{all_at}
 use Rattle.kept_order.proofs.Rows.{turns_begin}
 use Rattle.host_state.specs.State.{StateValue, IsCaughtUp, stored_of}
 use Rattle.hart_runner.specs.declared.holding.Hold.TheVariants.{Turned}
+use Rattle.hart_runner.specs.declared.tapes.Piece.{Piece}
+use Rattle.hart_runner.specs.Stretches.{GoesOnBy, IsCommitted, IsGoing, IsPiece, LieAt, events_of}
+use Rattle.hart_runner.proofs.GoingOn.{whole_turn, hears_all, all_heard}
 use Rattle.hart_runner.specs.Holds.{IsHold, MayLeave, IsHeld}
 use Rattle.hart_runner.specs.Seats.{IsSeated, HasEntered, Own}
 use Rattle.hart_runner.proofs.Entered.{quiet_noted, live_within}
@@ -153,22 +152,6 @@ more_written : (h n : ℕ) (past : List Item) → length (journaled (steps h n p
 more_written h zero past = omega arith
 more_written h (suc n) past = omega (arith, more_written h n past)
 
--- what is recorded
-pub record IsCommitted (h n : ℕ) (old new : StateValue) (before after : HartState) (told : List Event) : Type 0 where
-  pub steps : new.past ≡ steps h n old.past
-  pub some : 0 < n
-  pub most : n ≤ 512
-  pub hart : after ≡ hart_of new.task.machine new.task.mode new.past h
-  pub events : told ≡ (steps_of old.task.machine h n before (world old.task.machine old.task.mode old.past).shared).events
-  pub inside : (j : ℕ) → j < n
-      → GoesInside j (steps_of old.task.machine h j before (world old.task.machine old.task.mode old.past).shared).hart
-  pub legal : Legal (task_run new.task) new.past
-  pub state_log : IsStateLog (task_run new.task) new.past
-  pub task : new.task ≡ old.task
-  pub awake : after.parked ≡ false
-  pub leaves : after.ending ≡ None → after.since ≡ 0
-  pub within_limit : after.ending ≡ None → after.steps < old.task.machine.limit
-
 pub turn_begins : (h : ℕ) (seen : List Item) (s : StateValue) (sets : List Attachment) (filters : List (ℕ × SetSpec))
     → HasEntered h seen s sets filters → InOrder s.task (stored_of s) → MayTurn (task_run s.task) h 0 s.past
 turn_begins h seen s sets filters entered order =
@@ -176,42 +159,46 @@ turn_begins h seen s sets filters entered order =
     (ap (λ (o : Option Item). not (is_some o)) entered.caught_up)
 
 pub turned : (h n : ℕ) (seen : List Item) (old new : StateValue) (sets : List Attachment) (filters : List (ℕ × SetSpec)) (noted : List Ask)
-    (before after : HartState) (told : List Event) (block : Stretch)
+    (before after : HartState) (told first : List Event) (pc : ℕ) (pieces : List Piece)
     → HasEntered h seen old sets filters → IsCommitted h n old new before after told
-    → before ≡ hart_of old.task.machine old.task.mode old.past h → IsBlock old.task.machine.image before.pc block
-    → before.since ≡ 0 → before.pc % 4 ≡ 0 → before.pc < 2 ^ 64
-    → IsHeld Turned h seen new after sets filters noted told block
-turned h n seen old new sets filters noted before after told block entered is same at since aligned small = (
+    → before ≡ hart_of old.task.machine old.task.mode old.past h → (0 < length sets → told ≡ first ++ events_of pieces)
+    → pc % 4 ≡ 0 → LieAt old.task.machine.image pc first → All (IsPiece old.task.machine.image) pieces
+    → IsHeld Turned h seen new after sets filters noted first pc pieces
+turned h n seen old new sets filters noted before after told first pc pieces entered is same heard aligned lies each = (
   record {
-    before = old.past;
-    n = n;
-    turn = is.steps;
-    some = is.some;
-    legal = is.legal;
-    state_log = is.state_log;
-    there = ap (λ (t : Task). is_there (task_run t) h old.past) is.task ∙ entered.there;
-    quiet = ap (λ (t : Task). asks_nothing (task_run t) h old.past) is.task ∙ entered.asks_nothing;
-    attached = entered.sets ∙ ap (λ (t : Task). sets_for is_with_hart (task_run t) h old.past) (sym is.task);
-    specs = entered.specs ∙ ap (λ (t : Task). specs_for (task_run t) h old.past) (sym is.task);
-    events = is.events
-        ∙ ap (λ (x : HartState). (steps_of old.task.machine h n x (world old.task.machine old.task.mode old.past).shared).events) same
-        ∙ ap (λ (t : Task). (steps_of t.machine h n (hart_of t.machine t.mode old.past h) (world t.machine t.mode old.past).shared).events)
-        (sym is.task);
-    is = is.hart;
-    awake = is.awake;
-    begins = is.leaves;
-    below = λ goes. subst (λ (t : Task). after.steps < t.machine.limit) (sym is.task) (is.within_limit goes);
+    told = told;
+    turn = record {
+      before = old.past;
+      n = n;
+      turn = is.made;
+      some = is.some;
+      legal = is.legal;
+      state_log = is.state_log;
+      there = ap (λ (t : Task). is_there (task_run t) h old.past) is.task ∙ entered.there;
+      quiet = ap (λ (t : Task). asks_nothing (task_run t) h old.past) is.task ∙ entered.asks_nothing;
+      attached = entered.sets ∙ ap (λ (t : Task). sets_for is_with_hart (task_run t) h old.past) (sym is.task);
+      specs = entered.specs ∙ ap (λ (t : Task). specs_for (task_run t) h old.past) (sym is.task);
+      events = is.events
+          ∙ ap (λ (x : HartState). (steps_of old.task.machine h n x (world old.task.machine old.task.mode old.past).shared).events) same
+          ∙ ap (λ (t : Task). (steps_of t.machine h n (hart_of t.machine t.mode old.past h) (world t.machine t.mode old.past).shared).events)
+          (sym is.task);
+      is = is.is;
+      awake = is.awake;
+      begins = is.leaves;
+      below = λ goes. subst (λ (t : Task). after.steps < t.machine.limit) (sym is.task) (is.within_limit goes);
+    };
+    heard = heard;
+    aligned = aligned;
+    lies = subst (λ (t : Task). LieAt t.machine.image pc first) (sym is.task) lies;
+    each = subst (λ (t : Task). All (IsPiece t.machine.image) pieces) (sym is.task) each;
   },
   omega (
     arith,
     never_less (λ i. party i ≡ h) seen old.past entered.own,
     more_written h n old.past,
-    ap (λ (past : List Item). length (journaled past)) is.steps,
+    ap (λ (past : List Item). length (journaled past)) is.made,
     is.some,
   ),
-  subst (λ (es : List Event). All (λ e. LiesIn block e.what) es) (sym is.events)
-      (events_lie_in_blocks old.task.machine h n before (world old.task.machine old.task.mode old.past).shared block at since aligned small
-      is.inside),
 )
 
 pub turned_hold : (h n : ℕ) (first old new : StateValue) (sets : List Attachment) (filters : List (ℕ × SetSpec))
@@ -220,14 +207,57 @@ pub turned_hold : (h n : ℕ) (first old new : StateValue) (sets : List Attachme
     → first.task.plan.script ≡ [] → IsHold h first new
 turned_hold h n first old new sets filters before after told entered is task plain = record {
   own = goes_on (λ i. party i ≡ h) (λ i. party i ≡ h) (λ i. party i ≡ h) first.past old.past new.past entered.own
-      (goes_same (λ i. party i ≡ h) old.past (steps h n old.past) new.past (own_steps h n old.past) (sym is.steps)) (λ i own. own) (λ i
+      (goes_same (λ i. party i ≡ h) old.past (steps h n old.past) new.past (own_steps h n old.past) (sym is.made)) (λ i own. own) (λ i
       own. own);
-  few = omega (arith, entered.total, more_steps h n old.past, ap total_steps is.steps, is.most);
+  few = omega (arith, entered.total, more_steps h n old.past, ap total_steps is.made, is.most);
   caught_up = inr (ap (λ (t : Task). wanted (task_run t) new.past) is.task
-      ∙ subst (λ (past : List Item). wanted (task_run old.task) past ≡ None) (sym is.steps)
+      ∙ subst (λ (past : List Item). wanted (task_run old.task) past ≡ None) (sym is.made)
       (still_wants_none (task_run old.task) old.past (steps h n old.past) (ap (λ (t : Task). t.plan.script) task ∙ plain)
       (same_starts h n old.past) entered.caught_up));
   task = is.task ∙ task;
+}
+
+-- the same of a Turn that went on with further blocks
+pub turned_on : (h k n r : ℕ) (seen : List Item) (old mid new : StateValue) (sets : List Attachment) (filters : List (ℕ × SetSpec))
+    (noted : List Ask) (x y z : HartState) (first : List Event) (pc : ℕ) (has_sets : Bool) (p q : List Piece) → k ≡ h
+    → HasEntered h seen old sets filters → x ≡ hart_of old.task.machine old.task.mode old.past h
+    → IsCommitted h n old mid x y first → pc % 4 ≡ 0 → LieAt old.task.machine.image pc first
+    → GoesOnBy mid.task k r mid.past new.past y z has_sets p q → new.task ≡ mid.task → InOrder new.task (stored_of new)
+    → IsGoing new k z → n + r ≤ 512 → p ≡ [] → (0 < length sets → has_sets ≡ true)
+    → IsHeld Turned h seen new z sets filters noted first pc q
+turned_on h k n r seen old mid new sets filters noted x y z first pc has_sets p q same entered is one aligned lies gone task order going
+    most none some =
+    let gone' : GoesOnBy mid.task h r mid.past new.past y z has_sets p q =
+    subst (λ (i : ℕ). GoesOnBy mid.task i r mid.past new.past y z has_sets p q) same gone in
+    let going' : IsGoing new h z = subst (λ (i : ℕ). IsGoing new i z) same going in
+    turned h (n + r) seen old new sets filters noted x z (first ++ gone'.told) first pc q entered
+    (whole_turn h n r old mid new x y z first has_sets p q is one gone' task order going' most) is
+    (λ has. hears_all mid.task h r mid.past new.past y z first has_sets p q gone' none (some has)) aligned lies
+    (subst (λ (t : Task). All (IsPiece t.machine.image) q) one.task
+    (all_heard mid.task h r mid.past new.past y z has_sets p q gone' none))
+
+pub turned_hold_on : (h k n r : ℕ) (first old mid new : StateValue) (sets : List Attachment) (filters : List (ℕ × SetSpec))
+    (x y z : HartState) (told : List Event) (has_sets : Bool) (p q : List Piece) → k ≡ h → HasEntered h first.past old sets filters
+    → x ≡ hart_of old.task.machine old.task.mode old.past h → IsCommitted h n old mid x y told
+    → GoesOnBy mid.task k r mid.past new.past y z has_sets p q → new.task ≡ mid.task → InOrder new.task (stored_of new)
+    → IsGoing new k z → n + r ≤ 512 → old.task ≡ first.task → first.task.plan.script ≡ [] → IsHold h first new
+turned_hold_on h k n r first old mid new sets filters x y z told has_sets p q same entered is one gone task order going most begun plain =
+    let gone' : GoesOnBy mid.task h r mid.past new.past y z has_sets p q =
+    subst (λ (i : ℕ). GoesOnBy mid.task i r mid.past new.past y z has_sets p q) same gone in
+    let going' : IsGoing new h z = subst (λ (i : ℕ). IsGoing new i z) same going in
+    turned_hold h (n + r) first old new sets filters x z (told ++ gone'.told) entered
+    (whole_turn h n r old mid new x y z told has_sets p q is one gone' task order going' most) begun plain
+
+-- A hart that found no memory behind its entry.
+
+pub stopped_hold : (h : ℕ) (first old new : StateValue) (sets : List Attachment) (filters : List (ℕ × SetSpec))
+    → HasEntered h first.past old sets filters → old.task ≡ first.task → new.short ≡ true → new.past ≡ old.past → new.task ≡ old.task
+    → IsHold h first new
+stopped_hold h first old new sets filters entered task short past same = record {
+  own = goes_same (λ i. party i ≡ h) first.past old.past new.past entered.own (sym past);
+  few = omega (arith, entered.total, ap total_steps past);
+  caught_up = inl short;
+  task = same ∙ task;
 }
 
 -- A hart that makes no Turn.
@@ -238,13 +268,6 @@ none_ending o some none = absurd (false≢true (ap is_some (sym none) ∙ some))
 pub same_hart : (t : Task) (past : List Item) (h k : ℕ) (hart other : HartState) → k ≡ h → other ≡ hart
     → hart ≡ hart_of t.machine t.mode past h → other ≡ hart_of t.machine t.mode past k
 same_hart t past h k hart other number same is = same ∙ is ∙ ap (hart_of t.machine t.mode past) (sym number)
-
--- the block is where the hart is
-pub starts_so : (t u : Task) (hart other : HartState) (block : Stretch) → u ≡ t → other ≡ hart → IsBlock t.machine.image hart.pc block
-    → IsBlock u.machine.image other.pc block
-starts_so t u hart other block task same is =
-    subst (λ (x : Task). IsBlock x.machine.image other.pc block) (sym task)
-    (subst (λ (x : HartState). IsBlock t.machine.image x.pc block) (sym same) is)
 
 -- one that has ended
 pub ended_seated : (h : ℕ) (first new : StateValue) (sets : List Attachment) (filters : List (ℕ × SetSpec)) (hart : HartState)

@@ -2,6 +2,8 @@ pub mod Logs
 pub mod Wants
 pub mod GivingBacks
 pub mod Entered
+pub mod GoingOn
+pub mod Pieces
 pub mod Held
 pub mod Lists
 pub mod Between

@@ -40,6 +40,10 @@ serves one image generation sets block kept are is n d below =
           (subst (λ p. IsBlock image p (slice_index_or kept n d).list.block) at list.of_image) is;
     }
 
+-- a block at its own address
+pub block_at : (image : Program) (pc : ℕ) (block : Stretch) → IsBlock image pc block → IsBlock image block.pc block
+block_at image pc block is = subst (λ (p : ℕ). IsBlock image p block) (sym is.place) is
+
 kept_or_asked : (image : Program) (generation : ℕ) (sets : List (ℕ × SetSpec)) (asked : KeptList) (old : List KeptList) (x : KeptList)
     → AreLists image generation sets old → IsList image generation sets asked → Contains old x ⊎ (x ≡ asked)
     → IsList image generation sets x

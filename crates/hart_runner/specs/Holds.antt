@@ -1,5 +1,5 @@
 -- What a hart's part of a hold leaves.
-use Rattle.std.specs.Prelude.{◌≡◌, ◌<◌, ◌≤◌, ◌+◌, ℕ, true, false, List, ◌∷◌, Some, None, All}
+use Rattle.std.specs.Prelude.{◌≡◌, ◌<◌, ◌≤◌, ◌+◌, ◌%◌, ◌++◌, ℕ, true, false, List, ◌∷◌, Some, None, All, length}
 use Rattle.flat_model.specs.declared.events.Event.{Event}
 use Rattle.flat_model.specs.declared.plugins.Ask.{Ask}
 use Rattle.flat_model.specs.declared.plugins.SetSpec.{SetSpec}
@@ -10,10 +10,8 @@ use Rattle.flat_model.specs.Log.{steps, total_steps}
 use Rattle.flat_model.specs.Step.{steps_of}
 use Rattle.flat_model.specs.World.{HartState, Start, started_hart}
 use Rattle.flat_model.specs.Worlds.{world, hart_of}
-use Rattle.block_finder.specs.Block.{Stretch}
 use Rattle.baton_gate.specs.Logs.{GoesOn}
 use Rattle.watcher_api.specs.Attachment.{Attachment}
-use Rattle.instr_lists.specs.Sorts.{LiesIn}
 use Rattle.run_rules.specs.Legal.{Legal, is_there, asks_nothing}
 use Rattle.run_rules.specs.Places.{IsStateLog, is_with_hart}
 use Rattle.run_order.specs.Sets.{sets_for}
@@ -23,6 +21,8 @@ use Rattle.host_state.specs.State.{StateValue, IsCaughtUp}
 use Rattle.host_state.specs.Taking.{IsGotBy}
 use Rattle.hart_runner.specs.declared.holding.Hold.{Hold}
 use Rattle.hart_runner.specs.declared.holding.Hold.TheVariants.{Turned, GaveBack, Waits, Leaves}
+use Rattle.hart_runner.specs.declared.tapes.Piece.{Piece}
+use Rattle.hart_runner.specs.Stretches.{LieAt, IsPiece, events_of}
 use Rattle.hart_runner.specs.Seats.{IsSeated, HasWritten, Own}
 
 -- a parked hart in a hold: it stays as it is until it has its start, and is to be at that then
@@ -58,6 +58,16 @@ pub record HasTurned (t : Task) (h : ℕ) (past : List Item) (hart : HartState) 
   pub begins : hart.ending ≡ None → hart.since ≡ 0
   pub below : hart.ending ≡ None → hart.steps < t.machine.limit
 
+-- such a Turn of one block or of several, of which the boxes are to hear the events of the first block and then those of the pieces
+pub record HasMade (t : Task) (h : ℕ) (past : List Item) (hart : HartState) (sets : List Attachment) (filters : List (ℕ × SetSpec))
+    (first : List Event) (pc : ℕ) (pieces : List Piece) : Type 0 where
+  pub told : List Event
+  pub turn : HasTurned t h past hart sets filters told
+  pub heard : 0 < length sets → told ≡ first ++ events_of pieces
+  pub aligned : pc % 4 ≡ 0
+  pub lies : LieAt t.machine.image pc first
+  pub each : All (IsPiece t.machine.image) pieces
+
 -- the hart may leave
 pub record MayLeave (h : ℕ) (s : StateValue) (hart : HartState) (sets : List Attachment) : Type 0 where
   pub open_now : s.short ≡ false
@@ -73,11 +83,11 @@ IsStill GaveBack h taken s hart sets filters noted = IsSeated s.task h s.past ha
 IsStill Waits h taken s hart sets filters noted = IsSeated s.task h s.past hart sets filters noted × GoesOn (IsGotBy h) taken s.past
 IsStill Leaves h taken s hart sets filters noted = MayLeave h s hart sets
 
--- and one that may make a Turn of this block
-abbrev pub IsHeld : Hold → ℕ → List Item → StateValue → HartState → List Attachment → List (ℕ × SetSpec) → List Ask → List Event
-    → Stretch → Type 0
-IsHeld Turned h taken s hart sets filters noted told block =
-    HasTurned s.task h s.past hart sets filters told × HasWritten taken s.past × All (λ e. LiesIn block e.what) told
-IsHeld GaveBack h taken s hart sets filters noted told block = IsStill GaveBack h taken s hart sets filters noted
-IsHeld Waits h taken s hart sets filters noted told block = IsStill Waits h taken s hart sets filters noted
-IsHeld Leaves h taken s hart sets filters noted told block = IsStill Leaves h taken s hart sets filters noted
+-- and one that may make a Turn from pc on
+abbrev pub IsHeld : Hold → ℕ → List Item → StateValue → HartState → List Attachment → List (ℕ × SetSpec) → List Ask → List Event → ℕ
+    → List Piece → Type 0
+IsHeld Turned h taken s hart sets filters noted first pc pieces =
+    HasMade s.task h s.past hart sets filters first pc pieces × HasWritten taken s.past
+IsHeld GaveBack h taken s hart sets filters noted first pc pieces = IsStill GaveBack h taken s hart sets filters noted
+IsHeld Waits h taken s hart sets filters noted first pc pieces = IsStill Waits h taken s hart sets filters noted
+IsHeld Leaves h taken s hart sets filters noted first pc pieces = IsStill Leaves h taken s hart sets filters noted

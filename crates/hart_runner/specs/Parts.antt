@@ -1,11 +1,9 @@
 -- What a hart's part of a hold makes of its seat.
-use Rattle.std.specs.Prelude.{◌≡◌, ◌<◌, ◌≤◌, ℕ, true, false, List, ◌∷◌, None, IsSome, Option, MatchOption, All, replicate}
+use Rattle.std.specs.Prelude.{◌≡◌, ◌<◌, ◌≤◌, ℕ, true, false, List, ◌∷◌, None, IsSome, Option, MatchOption, replicate}
 use Rattle.flat_model.specs.declared.plugins.Ask.TheVariants.{Stay}
 use Rattle.flat_model.specs.declared.journals.Item.{Item}
 use Rattle.flat_model.specs.declared.journals.Item.TheVariants.{Left}
-use Rattle.block_finder.specs.Block.{Stretch, IsBlock}
 use Rattle.baton_gate.specs.Logs.{GoesOn}
-use Rattle.instr_lists.specs.Sorts.{LiesIn}
 use Rattle.run_order.specs.InOrder.{Task}
 use Rattle.host_state.specs.Moving.{IsPrivateTurn}
 use Rattle.host_state.specs.State.{StateValue}
@@ -14,8 +12,9 @@ use Rattle.hart_runner.specs.declared.going_ahead.Ahead.{Ahead}
 use Rattle.hart_runner.specs.declared.holding.Hold.{Hold}
 use Rattle.hart_runner.specs.declared.holding.Hold.TheVariants.{Turned, GaveBack, Waits, Leaves}
 use Rattle.hart_runner.specs.declared.seats.Seat.{Seat}
+use Rattle.hart_runner.specs.declared.tapes.Piece.{Piece}
 use Rattle.hart_runner.specs.Seats.{IsBack, IsSeated, HasWritten, Own}
-use Rattle.hart_runner.specs.Holds.{IsAsleep, HasTurned}
+use Rattle.hart_runner.specs.Holds.{IsAsleep, HasMade}
 
 -- hart h left with its last item
 pub record HasLeftThen (h : ℕ) (taken now : List Item) : Type 0 where
@@ -34,13 +33,13 @@ module _ {W : Type 0} where
     pub below : seat.hart.ending ≡ None → seat.hart.steps < s.task.machine.limit
 
   -- and one whose hart runs, and has gone ahead in its block
-  pub record ComesAhead (s : StateValue) (seat : Seat W) (ahead : Ahead) (stretch : Stretch) : Type 0 where
+  pub record ComesAhead (s : StateValue) (seat : Seat W) (ahead : Ahead) : Type 0 where
     pub back : IsBack s.task seat.no s.past seat.hart seat.attached seat.specs seat.asks.first
     pub awake : seat.hart.parked ≡ false
     pub running : seat.hart.ending ≡ None
     pub begins : seat.hart.since ≡ 0
     pub below : seat.hart.steps < s.task.machine.limit
-    pub block : IsBlock s.task.machine.image seat.hart.pc stretch
+    pub image : seat.image.value ≡ s.task.machine.image
     pub ran : IsPrivateTurn s.task.machine.image s.task.machine.limit seat.no ahead.ran seat.hart ahead.hart seat.raw.events
 
   -- what a hold leaves of the seat as it was; the sets of a hart change with the number of its lists
@@ -62,11 +61,10 @@ module _ {W : Type 0} where
       × (old.hart.parked ≡ true)) × KeepsLists old seat)
   IsStillPart Leaves t taken past old now = (now ≡ None) × HasLeftThen old.no taken past
 
-  abbrev pub IsPart : Hold → Task → List Item → List Item → Stretch → Seat W → Option (Seat W) → Type 0
-  IsPart Turned t taken past block old now = MatchOption now ⊥ (λ seat.
-      (HasTurned t seat.no past seat.hart seat.attached seat.specs seat.raw.events × HasWritten taken past
-      × All (λ e. LiesIn block e.what) seat.raw.events)
+  abbrev pub IsPart : Hold → Task → List Item → List Item → List Piece → Seat W → Option (Seat W) → Type 0
+  IsPart Turned t taken past pieces old now = MatchOption now ⊥ (λ seat.
+      (HasMade t seat.no past seat.hart seat.attached seat.specs seat.raw.events old.hart.pc pieces × HasWritten taken past)
       × KeepsLists old seat)
-  IsPart GaveBack t taken past block old now = IsStillPart GaveBack t taken past old now
-  IsPart Waits t taken past block old now = IsStillPart Waits t taken past old now
-  IsPart Leaves t taken past block old now = IsStillPart Leaves t taken past old now
+  IsPart GaveBack t taken past pieces old now = IsStillPart GaveBack t taken past old now
+  IsPart Waits t taken past pieces old now = IsStillPart Waits t taken past old now
+  IsPart Leaves t taken past pieces old now = IsStillPart Leaves t taken past old now

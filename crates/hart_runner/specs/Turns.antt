@@ -1,5 +1,6 @@
 -- What a runner knows between its holds, and what a turn adds to the log.
-use Rattle.std.specs.Prelude.{◌≡◌, ◌≢◌, ◌≤◌, ◌+◌, ℕ, true, false, List, [], ◌∷◌, None, Option, MatchOption, All}
+use Rattle.std.specs.Prelude.{◌≡◌, ◌≢◌, ◌<◌, ◌≤◌, ◌+◌, ◌%◌, ◌++◌, ℕ, true, false, List, [], ◌∷◌, None, Option, MatchOption, All, length}
+use Rattle.flat_model.specs.declared.events.Event.{Event}
 use Rattle.flat_model.specs.declared.journals.Item.{Item}
 use Rattle.flat_model.specs.declared.journals.Item.TheVariants as items
 use Rattle.flat_model.specs.declared.limits.TheConstants.{BLOCK_WORDS}
@@ -10,17 +11,17 @@ use Rattle.baton_gate.specs.Logs.{GoesOn}
 use Rattle.event_walk.specs.Matches.{classes_of}
 use Rattle.watcher_api.specs.Acting.{acts_of, ask_of, walks_of, IsAbsent}
 use Rattle.instr_lists.specs.Delivery.{acts_with, no_asks, each_walks}
-use Rattle.instr_lists.specs.Sorts.{LiesIn}
 use Rattle.run_rules.specs.Legal.{is_there}
 use Rattle.run_order.specs.InOrder.{Task, task_run}
 use Rattle.host_state.specs.Taking.{IsGotBy}
 use Rattle.instr_lists.specs.declared.kept_lists.KeptList.{KeptList}
-use Rattle.block_finder.specs.Block.{Stretch, IsBlock}
 use Rattle.host_state.specs.Moving.{IsPrivateTurn}
 use Rattle.hart_runner.specs.declared.going_ahead.Ahead.{Ahead}
 use Rattle.hart_runner.specs.declared.holding.Hold.{Hold}
 use Rattle.hart_runner.specs.declared.holding.Hold.TheVariants as holds
+use Rattle.hart_runner.specs.declared.tapes.Piece.{Piece}
 use Rattle.hart_runner.specs.Lists.{AreLists}
+use Rattle.hart_runner.specs.Stretches.{LieAt, IsPiece, events_of}
 use Rattle.hart_runner.specs.declared.runners.Turned.{Turned}
 use Rattle.hart_runner.specs.declared.runners.Turned.TheVariants.{Went, Left, Waited}
 use Rattle.hart_runner.specs.declared.seats.Seat.{Seat}
@@ -61,32 +62,27 @@ module _ {W : Type 0} where
   abbrev pub HasLists : List KeptList → Seat W → Type 0
   HasLists kept seat = AreLists seat.image.value seat.generation seat.specs kept
 
-  -- its hart runs, and is at a block
-  pub record IsAt (block : Stretch) (seat : Seat W) : Type 0 where
+  -- its hart runs, and has gone ahead in its block
+  pub record IsAhead (seat : Seat W) (ahead : Ahead) : Type 0 where
     pub awake : seat.hart.parked ≡ false
     pub running : seat.hart.ending ≡ None
-    pub is : IsBlock seat.image.value seat.hart.pc block
-
-  -- and has gone ahead in it
-  pub record IsAhead (seat : Seat W) (ahead : Ahead) (block : Stretch) : Type 0 where
-    pub awake : seat.hart.parked ≡ false
-    pub running : seat.hart.ending ≡ None
-    pub is : IsBlock seat.image.value seat.hart.pc block
     pub ran : IsPrivateTurn seat.image.value seat.limit seat.no ahead.ran seat.hart ahead.hart seat.raw.events
 
-  -- what delivery needs
-  pub record MayHear (block : Stretch) (lists : List KeptList) (seat : Seat W) : Type 0 where
-    pub is : IsBlock seat.image.value block.pc block
+  -- what delivery needs of a Turn from pc on
+  pub record MayHear (pc : ℕ) (pieces : List Piece) (lists : List KeptList) (seat : Seat W) : Type 0 where
+    pub aligned : pc % 4 ≡ 0
     pub kept : seat.raw.kept ≡ true
-    pub lies : All (λ e. LiesIn block e.what) seat.raw.events
+    pub lies : LieAt seat.image.value pc seat.raw.events
+    pub each : All (IsPiece seat.image.value) pieces
     pub cached : HasLists lists seat
     pub acts : acts_of seat.attached ≡ acts_with seat.specs
 
-  -- its boxes have heard its events, and it notes what they asked for
-  pub record HasHeard (old new : Seat W) : Type 0 where
+  -- its boxes have heard the events of the first block and those of the pieces, in this order, and it notes what they asked for
+  pub record HasHeard (pieces : List Piece) (old new : Seat W) : Type 0 where
     pub acts : acts_of new.attached ≡ acts_of old.attached
-    pub walks : walks_of new.asks.first new.attached
-        ≡ each_walks (classes_of old.image.value) old.specs old.raw.events (walks_of no_asks old.attached)
+    pub walks : (told : List Event) → (0 < length old.attached → told ≡ old.raw.events ++ events_of pieces)
+        → walks_of new.asks.first new.attached
+        ≡ each_walks (classes_of old.image.value) old.specs told (walks_of no_asks old.attached)
     pub others : (p : ℕ) → 1 ≤ p → IsAbsent p old.attached → ask_of p new.asks.first ≡ Stay
     pub rest : new ≡ record old { attached = new.attached; asks = new.asks }
 

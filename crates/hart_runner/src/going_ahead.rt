@@ -1,11 +1,13 @@
 //! What a hart makes of its block by itself, before it takes the shared state.
 
-ghost use Rattle.std.specs.Prelude.{◌≡◌, ◌<◌, false, None};
+ghost use Rattle.std.specs.Prelude.{◌≡◌, ◌<◌, false, None, IfOk};
 ghost use Rattle.block_finder.specs.Block.{IsBlock};
+ghost use Rattle.block_finder.specs.Caches.{MayServe};
 ghost use Rattle.host_state.specs.Moving.{IsPrivateTurn};
 
 use crate::seats::Seat;
-use block_finder::Block;
+use block_finder::{Block, BlockCache};
+use flat_model::NoMemory;
 use flat_model::limits::BLOCK_WORDS;
 use private_runs::private_run;
 use rv_exec::Hart;
@@ -41,4 +43,25 @@ pub(crate) fn go_ahead<W: Watcher>(seat: &mut Seat<W>, block: &Block) -> Ahead
         &mut seat.raw,
     );
     Ahead { hart, ran }
+}
+
+/// The same for the block that the hart is at.
+pub(crate) fn go_ahead_from<W: Watcher>(
+    seat: &mut Seat<W>,
+    blocks: &mut BlockCache,
+) -> Result<Ahead, NoMemory>
+    requires awake { seat.old.hart.parked ≡ false }
+    requires running { seat.old.hart.ending ≡ None }
+    requires below { seat.old.hart.steps < seat.old.limit }
+    requires serves { MayServe blocks.old seat.old.image.value }
+    ensures ran { IfOk result (λ ahead. IsPrivateTurn seat.old.image.value seat.old.limit seat.old.no ahead.ran seat.old.hart ahead.hart
+        seat.new.raw.events) }
+    ensures kept { seat.new.raw.kept ≡ seat.old.raw.kept }
+    ensures blocks { MayServe blocks.new seat.old.image.value }
+    ensures seat { seat.new ≡ record seat.old { raw = seat.new.raw } }
+{
+    // A hart's pc is a multiple of 4.
+    let _pc = seat.hart.pc;
+    let block = blocks.lookup(&seat.image, seat.hart.pc)?;
+    Ok(go_ahead(seat, block))
 }

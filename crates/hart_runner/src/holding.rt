@@ -3,7 +3,7 @@
 ghost use Rattle.std.specs.Prelude.{◌≡◌, ◌≢◌, ◌<◌, ◌≤◌, [], true, false, replicate, None, IfOk, OnOk, IsSome};
 ghost use Rattle.flat_model.specs.declared.plugins.Ask.TheVariants.{Stay};
 ghost use Rattle.flat_model.specs.Worlds.{world, hart_of};
-ghost use Rattle.block_finder.specs.Block.{IsBlock};
+ghost use Rattle.block_finder.specs.Caches.{MayServe};
 ghost use Rattle.host_state.specs.Moving.{IsPrivateTurn};
 ghost use Rattle.host_state.specs.State.{IsCaughtUp};
 ghost use Rattle.hart_runner.specs.declared.holding.Hold.TheVariants.{Waits};
@@ -13,7 +13,9 @@ ghost use Rattle.hart_runner.specs.Holds.{IsAsleep, IsHold, IsStill, IsHeld};
 use crate::entering::{enter, enter_parked};
 use crate::going_ahead::Ahead;
 use crate::seats::Seat;
-use block_finder::Block;
+use crate::stretching::{commit_first, go_on};
+use crate::tapes::Tape;
+use block_finder::BlockCache;
 use flat_model::NoMemory;
 use host_state::HostState;
 use rv_exec::Hart;
@@ -32,13 +34,15 @@ pub(crate) enum Hold {
     Leaves,
 }
 
-/// The part of a hart that runs and has gone ahead: it records the Turn of its block, and makes the rest of the block with
-/// what the harts share. Where the group has ended meanwhile, its steps are given up, and it stays as it was.
+/// The part of a hart that runs and has gone ahead: it records the Turn of its block, makes the rest of the block with what the
+/// harts share, and goes on with its next blocks. Where the group has ended meanwhile, its steps are given up, and it stays as it
+/// was.
 pub(crate) fn hold_running<W: Watcher, C: Closer<Held<W>>>(
     state: &mut HostState<W, C>,
     seat: &mut Seat<W>,
-    mut ahead: Ahead,
-    block: &Block,
+    ahead: Ahead,
+    blocks: &mut BlockCache,
+    tape: &mut Tape,
 ) -> Result<Hold, NoMemory>
     requires back { IsBack state.old.task seat.old.no state.old.past seat.old.hart seat.old.attached seat.old.specs seat.old.asks.first }
     requires caught_up { IsCaughtUp state.old }
@@ -47,16 +51,19 @@ pub(crate) fn hold_running<W: Watcher, C: Closer<Held<W>>>(
     requires running { seat.old.hart.ending ≡ None }
     requires begins { seat.old.hart.since ≡ 0 }
     requires below { seat.old.hart.steps < state.old.task.machine.limit }
-    requires block { IsBlock state.old.task.machine.image seat.old.hart.pc block.now }
+    requires image { seat.old.image.value ≡ state.old.task.machine.image }
+    requires serves { MayServe blocks.old seat.old.image.value }
+    requires empty { tape.old.pieces.items ≡ [] }
     requires ran { IsPrivateTurn state.old.task.machine.image state.old.task.machine.limit seat.old.no ahead.ran seat.old.hart ahead.hart
         seat.old.raw.events }
     ensures held { IfOk result (λ hold. IsHeld hold seat.new.no state.old.past state.new seat.new.hart seat.new.attached seat.new.specs
-        seat.new.asks.first seat.new.raw.events block.now) }
+        seat.new.asks.first seat.new.raw.events seat.old.hart.pc tape.new.pieces.items) }
     ensures goes { IfOk result (λ hold. hold ≢ Waits) }
     ensures hold { IsHold seat.new.no state.old state.new }
     ensures lists { OnOk result (seat.new.generation ≡ seat.old.generation → seat.new.specs ≡ seat.old.specs) }
     ensures rises { OnOk result (seat.old.generation ≤ seat.new.generation) }
     ensures kept { seat.new.raw.kept ≡ seat.old.raw.kept }
+    ensures blocks { MayServe blocks.new seat.old.image.value }
     ensures seat { seat.new ≡ record seat.old {
       hart = seat.new.hart;
       attached = seat.new.attached;
@@ -73,17 +80,21 @@ pub(crate) fn hold_running<W: Watcher, C: Closer<Held<W>>>(
     // Each state is in order.
     let _ = state.task();
     if state.group().is_none() {
-        let before = seat.hart;
-        state.commit_turn(
+        let made = commit_first(state, seat, ahead, blocks)?;
+        let has_sets = seat.attached.len() > 0;
+        go_on(
+            state,
             seat.no,
-            &before,
-            &mut ahead.hart,
-            ahead.ran,
-            block,
+            &mut seat.hart,
             &mut seat.near,
-            &mut seat.raw,
+            &seat.image,
+            has_sets,
+            made,
+            blocks,
+            tape,
         );
-        seat.hart = ahead.hart;
+        // Each state is in order.
+        let _ = state.task();
         return Ok(Hold::Turned);
     }
     if gave_back {

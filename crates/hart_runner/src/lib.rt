@@ -3,6 +3,7 @@
 
 pub use runners::{Runner, Turned};
 pub use seats::Seat;
+pub use tapes::{Piece, Tape};
 
 mod delivering;
 mod entering;
@@ -11,4 +12,6 @@ mod holding;
 mod parts;
 mod runners;
 mod seats;
+mod stretching;
+mod tapes;
 mod turns;

@@ -2,6 +2,7 @@
 
 ghost use Rattle.std.specs.Prelude.{◌≡◌, ◌<◌, ◌∷◌, [], true, None, IfOk, OnOk, MatchOption};
 ghost use Rattle.flat_model.specs.declared.journals.Item.TheVariants.{Left};
+ghost use Rattle.block_finder.specs.Caches.{MayServe};
 ghost use Rattle.host_state.specs.State.{IsCaughtUp};
 ghost use Rattle.hart_runner.specs.declared.holding.Hold.TheVariants.{Waits};
 ghost use Rattle.hart_runner.specs.Holds.{IsHold, IsStill, MayLeave};
@@ -10,7 +11,8 @@ ghost use Rattle.hart_runner.specs.Parts.{ComesStill, ComesAhead, KeepsLists, Is
 use crate::going_ahead::Ahead;
 use crate::holding::{Hold, hold_ended, hold_parked, hold_running};
 use crate::seats::Seat;
-use block_finder::Block;
+use crate::tapes::Tape;
+use block_finder::BlockCache;
 use flat_model::NoMemory;
 use host_state::HostState;
 use watcher_api::{Closer, Held, Watcher};
@@ -81,20 +83,24 @@ pub(crate) fn take_running_part<W: Watcher, C: Closer<Held<W>>>(
     state: &mut HostState<W, C>,
     place: &mut Option<Seat<W>>,
     ahead: Ahead,
-    block: &Block,
+    blocks: &mut BlockCache,
+    tape: &mut Tape,
 ) -> Result<Hold, NoMemory>
-    requires comes { MatchOption place.old ⊥ (λ seat. ComesAhead state.old seat ahead block.now) }
+    requires comes { MatchOption place.old ⊥ (λ seat. ComesAhead state.old seat ahead) }
+    requires serves { MatchOption place.old ⊥ (λ seat. MayServe blocks.old seat.image.value) }
+    requires empty { tape.old.pieces.items ≡ [] }
     requires caught_up { IsCaughtUp state.old }
     requires plain { state.old.task.plan.script ≡ [] }
     ensures part { MatchOption place.old ⊥
-        (λ seat. IfOk result (λ hold. IsPart hold state.new.task state.old.past state.new.past block.now seat
+        (λ seat. IfOk result (λ hold. IsPart hold state.new.task state.old.past state.new.past tape.new.pieces.items seat
         place.new)) }
     ensures hold { MatchOption place.old ⊥ (λ seat. IsHold seat.no state.old state.new) }
+    ensures blocks { MatchOption place.old ⊥ (λ seat. MayServe blocks.new seat.image.value) }
 {
     let Some(seat) = place else {
         return Err(NoMemory);
     };
-    let hold = hold_running(state, seat, ahead, block)?;
+    let hold = hold_running(state, seat, ahead, blocks, tape)?;
     let Hold::Leaves = hold else {
         return Ok(hold);
     };

@@ -1,6 +1,7 @@
 //! Runners.
 
 use crate::seats::Seat;
+use crate::tapes::Tape;
 use baton_gate::Pass;
 use block_finder::BlockCache;
 use host_state::HostState;
@@ -15,6 +16,8 @@ pub struct Runner<W: Watcher, C: Closer<Held<W>>> {
     pub seat: Option<Seat<W>>,
     pub blocks: BlockCache,
     pub lists: ListCache,
+    /// The blocks of its last hold behind the first.
+    pub tape: Tape,
 }
 
 /// What a turn did.

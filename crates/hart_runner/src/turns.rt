@@ -1,22 +1,23 @@
 //! The turns of a runner.
 
-ghost use Rattle.std.specs.Prelude.{◌≡◌, ◌+◌, ◌-◌, ◌^◌, ◌≤◌, ◌<◌, true, false, min, List};
+ghost use Rattle.std.specs.Prelude.{◌≡◌, ◌+◌, ◌-◌, ◌^◌, ◌≤◌, ◌<◌, [], true, false, min, List};
 ghost use Rattle.std.specs.Prelude.{None, Some, IsSome, IfOk, OnOk, OnErr, MatchOption};
 ghost use Rattle.block_finder.specs.Caches.{MayServe};
 ghost use Rattle.run_order.specs.InOrder.{Task};
 ghost use Rattle.baton_gate.specs.Passes.{IsPassOf, known, seen, holds, carries};
 ghost use Rattle.hart_runner.specs.Parts.{IsStillPart, IsPart};
-ghost use Rattle.hart_runner.specs.Turns.{HasGone, HasHeard, HasLeftLast, HasLists, IsAhead, IsAt, IsDone, MayHear, Sits, turned_of};
+ghost use Rattle.hart_runner.specs.Turns.{HasGone, HasHeard, HasLeftLast, HasLists, IsAhead, IsDone, MayHear, Sits, turned_of};
 ghost use Rattle.instr_lists.specs.declared.kept_lists.KeptList.{KeptList};
 
-use crate::delivering::deliver_turn;
-use crate::going_ahead::{Ahead, go_ahead};
+use crate::delivering::hear_turn;
+use crate::going_ahead::{Ahead, go_ahead_from};
 use crate::holding::Hold;
 use crate::parts::{take_running_part, take_still_part};
 use crate::runners::{Runner, Turned};
 use crate::seats::Seat;
+use crate::tapes::{Piece, Tape};
 use baton_gate::{Gate, Pass};
-use block_finder::{Block, BlockCache};
+use block_finder::BlockCache;
 use flat_model::NoMemory;
 use host_state::HostState;
 use instr_lists::ListCache;
@@ -119,59 +120,71 @@ fn hold_running_once<W: Watcher, C: Closer<Held<W>>, R: Wait>(
     pass: &mut Pass<Box<HostState<W, C>>>,
     place: &mut Option<Seat<W>>,
     ahead: Ahead,
-    block: &Block,
+    blocks: &mut BlockCache,
+    tape: &mut Tape,
 ) -> Result<Hold, NoMemory>
     requires gate { IsPassOf gate.now pass.old }
     requires free { holds pass.old ≡ false }
     requires sits { (t : Task) → carries pass.old ≡ Some t
         → MatchOption place.old ⊥ (Sits t pass.old.party (seen pass.old)) }
-    requires ahead { MatchOption place.old ⊥ (λ seat. IsAhead seat ahead block.now) }
+    requires ahead { MatchOption place.old ⊥ (λ seat. IsAhead seat ahead) }
+    requires serves { MatchOption place.old ⊥ (λ seat. MayServe blocks.old seat.image.value) }
+    requires empty { tape.old.pieces.items ≡ [] }
     ensures gate { IsPassOf gate.now pass.new }
     ensures same { known pass.new ≡ record (known pass.old) { seen = seen pass.new } }
     ensures party { pass.new.party ≡ pass.old.party }
     ensures takes { pass.new.takes ≡ min (pass.old.takes + 1) (2 ^ 64 - 1) }
     ensures gone { (t : Task) → carries pass.old ≡ Some t → MatchOption place.old ⊥ (λ seat. IfOk result (λ hold.
-        HasGone seat.no (seen pass.old) (seen pass.new) (λ taken. IsPart hold t taken (seen pass.new) block.now seat place.new))) }
+        HasGone seat.no (seen pass.old) (seen pass.new)
+        (λ taken. IsPart hold t taken (seen pass.new) tape.new.pieces.items seat place.new))) }
+    ensures blocks { MatchOption place.old ⊥ (λ seat. MayServe blocks.new seat.image.value) }
 {
     let mut state = gate.take(rt, pass);
     // Each state is in order.
     let _ = state.task();
-    let held = take_running_part(&mut state, place, ahead, block);
+    let held = take_running_part(&mut state, place, ahead, blocks, tape);
     gate.give(rt, pass, state);
     held
 }
 
-/// Lets the boxes of the seat hear the Turn that its hart made in a block.
+/// Lets the boxes of the seat hear the Turn that its hart made from `pc` on.
 fn hear<W: Watcher>(
     place: &mut Option<Seat<W>>,
-    block: &Block,
+    pc: u64,
+    pieces: &[Piece],
+    blocks: &mut BlockCache,
     lists: &mut ListCache,
 ) -> Result<(), NoMemory>
-    requires may { MatchOption place.old ⊥ (MayHear block.now lists.old) }
-    ensures heard { OnOk result (MatchOption place.old ⊥ (λ seat. MatchOption place.new ⊥ (HasHeard seat))) }
+    requires may { MatchOption place.old ⊥ (MayHear pc pieces.now lists.old) }
+    requires serves { MatchOption place.old ⊥ (λ seat. MayServe blocks.old seat.image.value) }
+    ensures heard { OnOk result (MatchOption place.old ⊥ (λ seat. MatchOption place.new ⊥ (HasHeard pieces.now seat))) }
     ensures lists { OnOk result (MatchOption place.new ⊥ (HasLists lists.new)) }
+    ensures serves { MatchOption place.old ⊥ (λ seat. MayServe blocks.new seat.image.value) }
 {
     let Some(seat) = place else {
         return Err(NoMemory);
     };
-    deliver_turn(seat, block, lists)
+    hear_turn(seat, pc, pieces, blocks, lists)
 }
 
-/// The turn of a hart that runs, in the block that it is at: it goes ahead, takes the state and records its Turn, and its
-/// boxes hear it once the state is given back.
+/// The turn of a hart that runs and has gone ahead in its block: it takes the state, records its Turn, and goes on with its next
+/// blocks; its boxes hear them, block after block, once the state is given back.
 fn turn_running<W: Watcher, C: Closer<Held<W>>, R: Wait>(
     rt: &R,
     gate: &Gate<Box<HostState<W, C>>>,
     pass: &mut Pass<Box<HostState<W, C>>>,
     place: &mut Option<Seat<W>>,
-    block: &Block,
+    ahead: Ahead,
+    blocks: &mut BlockCache,
     lists: &mut ListCache,
+    tape: &mut Tape,
 ) -> Result<Turned, NoMemory>
     requires gate { IsPassOf gate.now pass.old }
     requires free { holds pass.old ≡ false }
     requires sits { (t : Task) → carries pass.old ≡ Some t
         → MatchOption place.old ⊥ (Sits t pass.old.party (seen pass.old)) }
-    requires runs { MatchOption place.old ⊥ (IsAt block.now) }
+    requires ahead { MatchOption place.old ⊥ (λ seat. IsAhead seat ahead) }
+    requires serves { MatchOption place.old ⊥ (λ seat. MayServe blocks.old seat.image.value) }
     requires lists { MatchOption place.old ⊥ (HasLists lists.old) }
     ensures gate { IsPassOf gate.now pass.new }
     ensures same { known pass.new ≡ record (known pass.old) { seen = seen pass.new } }
@@ -179,28 +192,30 @@ fn turn_running<W: Watcher, C: Closer<Held<W>>, R: Wait>(
     ensures takes { min (pass.old.takes + 1) (2 ^ 64 - 1) ≤ pass.new.takes }
     ensures done { (t : Task) → carries pass.old ≡ Some t
         → IfOk result (λ turned. IsDone turned t pass.old.party (seen pass.old) (seen pass.new) place.new) }
+    ensures blocks { MatchOption place.old ⊥ (λ seat. MayServe blocks.new seat.image.value) }
     ensures lists { OnOk result (MatchOption place.new (Unit {0}) (HasLists lists.new)) }
     ensures failed { OnErr result (place.new ≡ None) }
 {
+    tape.rewind();
     let Some(seat) = place else {
         return Err(NoMemory);
     };
-    let ahead = go_ahead(seat, block);
-    let Ok(hold) = hold_running_once(rt, gate, pass, place, ahead, block) else {
+    let pc = seat.hart.pc;
+    let Ok(hold) = hold_running_once(rt, gate, pass, place, ahead, blocks, tape) else {
         *place = None;
         return Err(NoMemory);
     };
     let Hold::Turned = hold else {
         return Ok(turned_by(hold));
     };
-    let Ok(()) = hear(place, block, lists) else {
+    let Ok(()) = hear(place, pc, tape.further(), blocks, lists) else {
         give_up(rt, gate, pass, place);
         return Err(NoMemory);
     };
     Ok(Turned::Went)
 }
 
-/// The turn of a hart that runs, with the block that it is at.
+/// The turn of a hart that runs: it goes ahead in the block that it is at, by itself.
 fn turn_awake<W: Watcher, C: Closer<Held<W>>, R: Wait>(
     rt: &R,
     gate: &Gate<Box<HostState<W, C>>>,
@@ -208,6 +223,7 @@ fn turn_awake<W: Watcher, C: Closer<Held<W>>, R: Wait>(
     place: &mut Option<Seat<W>>,
     blocks: &mut BlockCache,
     lists: &mut ListCache,
+    tape: &mut Tape,
 ) -> Result<Turned, NoMemory>
     requires gate { IsPassOf gate.now pass.old }
     requires free { holds pass.old ≡ false }
@@ -229,18 +245,19 @@ fn turn_awake<W: Watcher, C: Closer<Held<W>>, R: Wait>(
     let Some(seat) = place else {
         return Err(NoMemory);
     };
-    let Ok(block) = blocks.lookup(&seat.image, seat.hart.pc) else {
+    let Ok(ahead) = go_ahead_from(seat, blocks) else {
         give_up(rt, gate, pass, place);
         return Err(NoMemory);
     };
-    turn_running(rt, gate, pass, place, block, lists)
+    turn_running(rt, gate, pass, place, ahead, blocks, lists, tape)
 }
 
 impl<W: Watcher, C: Closer<Held<W>>> Runner<W, C> {
     /// One turn of the hart: one hold of the shared state, and the calls of its boxes behind it. In the hold it records its asks
-    /// and its Backs and takes the sets that arrived. A hart that runs then records the Turn of one block, one that has ended
-    /// leaves, and a parked one comes to its start where it has one, leaves, or waits. Where it finds no memory, or another hart
-    /// found none, the runner has no seat any more.
+    /// and its Backs and takes the sets that arrived. A hart that runs then records a Turn of one block or of several, of at most 512
+    /// steps: it goes on with the next block while the cache keeps it and there is room for its events. One that has ended leaves,
+    /// and a parked one comes to its start where it has one, leaves, or waits. Where it finds no memory, or another hart found none,
+    /// the runner has no seat any more.
     pub fn turn<R: Wait>(
         &mut self,
         rt: &R,
@@ -275,6 +292,7 @@ impl<W: Watcher, C: Closer<Held<W>>> Runner<W, C> {
             &mut self.seat,
             &mut self.blocks,
             &mut self.lists,
+            &mut self.tape,
         )
     }
 

@@ -1,4 +1,7 @@
-pub mod Running
-pub mod Answering
-pub mod FirstBox
-pub mod Reporting
+pub mod Written
+pub mod Printed
+pub mod Earlier
+pub mod Told
+pub mod Passed
+pub mod Programs
+pub mod Sums

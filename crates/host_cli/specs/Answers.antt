@@ -1,74 +1,107 @@
--- What a call of `host_one` answers and prints.
-use Rattle.std.specs.Prelude.{◌≡◌, ◌⊎◌, ℕ, ℤ, List, [], ◌∷◌, Option, Some, None}
+-- What a call answers, prints and writes, by the command that its words ask for.
+use Rattle.std.specs.Prelude.{◌≡◌, ◌⊎◌, ℕ, List, Option, Some, None}
 use Rattle.flat_model.specs.Image.{Program}
-use Rattle.flat_model.specs.World.{HartState}
-use Rattle.flat_model.specs.Texts.{hart_line, status_of}
-use Rattle.outer_io.specs.Counts.{IsFaultless}
+use Rattle.flat_model.specs.Plan.{Planned}
 use Rattle.code_listing.specs.declared.listings.ListingOf.{ListingOf}
+use Rattle.code_listing.specs.declared.listings.ListingOf.TheVariants.{Instructions}
+use Rattle.code_listing.specs.declared.listings.ListingOf.TheVariants as listings
 use Rattle.code_listing.specs.Listings.{IsListing}
-use Rattle.host_cli.specs.declared.refusals.Refusal.{Refusal}
-use Rattle.host_cli.specs.declared.refusals.Refusal.TheVariants.{OutOfMemory}
-use Rattle.host_cli.specs.declared.words.Verb.TheVariants.{Run, Lists}
-use Rattle.host_cli.specs.Words.{verb_of, file_of}
-use Rattle.host_cli.specs.Sinks.{Around, Says, StopsAt, SaysLine, StopsAtLine, WasTold, IsSilent}
-use Rattle.host_cli.specs.Runs.{IsImageOf, HasRun, output_of, group_of}
-use Rattle.host_cli.specs.Refusals.{Given, HasCause, refusal_status, refusal_line}
+use Rattle.command_words.specs.declared.values.RunOptions.{RunOptions}
+use Rattle.command_words.specs.Commands.{CommandText, Run, Replay, Blocks, Disas, Generated, command_of}
+use Rattle.call_inputs.specs.declared.refusals.Refusal.{Refusal}
+use Rattle.call_inputs.specs.declared.refusals.Refusal.TheVariants.{Usage, OutOfMemory}
+use Rattle.call_inputs.specs.Causes.{RunCause, ImageCause}
+use Rattle.call_inputs.specs.Inputs.{IsImageOf, IsPlanOf}
+use Rattle.call_inputs.specs.Lines.{refusal_status, refusal_line}
+use Rattle.host_core.specs.Runs.{IsRunOf}
+use Rattle.host_state.specs.State.{StateValue}
+use Rattle.host_cli.specs.Ends.{RunEnds, out_of_memory_line}
+use Rattle.host_cli.specs.Files.{FilesAround, storage, AreRead, AreKept}
+use Rattle.host_cli.specs.Generated.{generated_options, IsGenerated, IsGeneratedPlan, GeneratedCause, SummaryEnds}
+use Rattle.host_cli.specs.Refusals.{input_of, named_in, task_for}
+use Rattle.host_cli.specs.Sinks.{Around, Says, StopsAt, WasTold, IsSilent}
 
--- the report's line of hart 0, whose group has ended with this code, if it has
-abbrev pub report_line : Option ℤ → HartState → List ℕ
-report_line group hart = hart_line 0 group hart
+-- a refusal's line was put and its status is answered, or those of want of memory, which the line itself may meet; nothing else happened
+pub record Refuses (command : Option CommandText) (refusal : Refusal) (files : FilesAround) (out report : Around) (status : ℕ) : Type 0
+  where
+    pub put : Refusal
+    pub is_it : (put ≡ refusal) ⊎ (put ≡ OutOfMemory)
+    pub status_is : status ≡ refusal_status put
+    pub line : WasTold report (refusal_line (named_in command (input_of put)) put)
+    pub silent : IsSilent out
+    pub kept : AreKept files
 
--- a refusal's line was put and its status is answered, or those of want of memory
-abbrev pub PutRefusal : List ℕ → Refusal → ℕ → Around → Type 0
-PutRefusal name refusal status report =
-    (put : Refusal)
-    × ((put ≡ refusal) ⊎ (put ≡ OutOfMemory))
-    × (status ≡ refusal_status put)
-    × WasTold report (refusal_line name put)
+-- `run`: it is refused, or its run is whole and ends so
+pub data RunAnswers (options : RunOptions) (script journal : Option (List ℕ)) (file : List ℕ) (plugins : List (List ℕ))
+    (files : FilesAround) (out report : Around) : ℕ → Option StateValue → Type 0 where
+  refused : (refusal : Refusal) (status : ℕ)
+      → RunCause (storage files) options.harts file plugins script files.reads_before files.reads_now refusal
+      → Refuses (Some (Run options script journal file plugins)) refusal files out report status
+      → RunAnswers options script journal file plugins files out report status None
+  ran : (image : Program) (plan : Planned) (s : StateValue) (status : ℕ)
+      → IsImageOf (storage files) file image
+      → IsPlanOf (storage files) options.harts plugins script plan
+      → AreRead files
+      → IsRunOf (task_for options image plan) s
+      → RunEnds s journal files out report status
+      → RunAnswers options script journal file plugins files out report status (Some s)
 
--- how a hart that has run is reported, with its output and its group's code: the status, and what the sinks gain.
--- The output comes first, and the line only where all of it was put
-pub data Reports (hart : HartState) (output : List ℕ) (group : Option ℤ) (out report : Around) : ℕ → Type 0 where
-  said : Says out output → SaysLine report (report_line group hart)
-      → Reports hart output group out report (status_of group (hart.ending ∷ []))
-  cut_short : StopsAt out output → IsSilent report → Reports hart output group out report 6
-  stopped : Says out output → StopsAtLine report (report_line group hart) → Reports hart output group out report 6
-  out_of_memory : IsSilent out → WasTold report (refusal_line [] OutOfMemory) → Reports hart output group out report 7
+-- `disas` and `blocks`: refused, or the listing of the image is put
+pub data ListAnswers (command : CommandText) (what : ListingOf) (file : List ℕ) (files : FilesAround) (out report : Around) : ℕ → Type 0
+  where
+    refused : (refusal : Refusal) (status : ℕ)
+        → ImageCause (storage files) file files.reads_before files.reads_now refusal
+        → Refuses (Some command) refusal files out report status
+        → ListAnswers command what file files out report status
+    listed : (image : Program) (text : List ℕ)
+        → IsImageOf (storage files) file image → AreRead files → IsListing what image text
+        → Says out text → IsSilent report → AreKept files
+        → ListAnswers command what file files out report 0
+    cut : (image : Program) (text : List ℕ)
+        → IsImageOf (storage files) file image → AreRead files → IsListing what image text
+        → StopsAt out text → IsSilent report → AreKept files
+        → ListAnswers command what file files out report 6
 
--- the ways in which `run` of an image ends: the status and the hart that it answers, what the sinks gain, and, after a
--- run, what the boxes have heard
-pub data RunAnswers (image : Program) (out report : Around) (heard : HartState → Type 0) : ℕ → Option HartState → Type 0 where
-  -- no memory for a run: nothing but the line, and no hart
-  not_run : IsSilent out → WasTold report (refusal_line [] OutOfMemory)
-      → RunAnswers image out report heard 7 None
-  -- the hart has run, and is reported
-  ran : (hart : HartState) (status : ℕ) → HasRun image hart → heard hart
-      → Reports hart (output_of image hart) (group_of image hart) out report status
-      → RunAnswers image out report heard status (Some hart)
+-- `self`: it is refused, or its run is whole and ends so
+pub data SelfAnswers (n : ℕ) (files : FilesAround) (out report : Around) : ℕ → Option StateValue → Type 0 where
+  refused : (refusal : Refusal) (status : ℕ)
+      → GeneratedCause n refusal → AreRead files
+      → Refuses (Some (Generated n)) refusal files out report status
+      → SelfAnswers n files out report status None
+  ran : (image : Program) (plan : Planned) (s : StateValue) (status : ℕ)
+      → IsGenerated n image → IsGeneratedPlan plan
+      → AreRead files → AreKept files
+      → IsRunOf (task_for generated_options image plan) s
+      → SummaryEnds n s out report status
+      → SelfAnswers n files out report status (Some s)
 
--- the ways in which a listing of an image ends: the status, and what the two sinks gain
-pub data ListAnswers (what : ListingOf) (image : Program) (out report : Around) : ℕ → Type 0 where
-  listed : (text : List ℕ) → IsListing what image text → Says out text → IsSilent report → ListAnswers what image out report 0
-  cut : (text : List ℕ) → IsListing what image text → StopsAt out text → IsSilent report → ListAnswers what image out report 6
-  unlisted : IsSilent out → WasTold report (refusal_line [] OutOfMemory) → ListAnswers what image out report 7
+-- the commands that no call carries out yet
+abbrev pub IsUnbuilt : CommandText → Type 0
+IsUnbuilt (Run options None journal file plugins) = ⊥
+IsUnbuilt (Run options (Some script) journal file plugins) = Unit {0}
+IsUnbuilt (Replay options script file journal plugins) = Unit {0}
+IsUnbuilt (Blocks file) = ⊥
+IsUnbuilt (Disas file) = ⊥
+IsUnbuilt (Generated n) = ⊥
 
--- the ways in which a call of `host_one` ends: a refusal before there is an image, a run or a listing of the
--- image of the file that the words name. No read of that file has failed then
-pub data Answers (given : Given) (out report : Around) (heard : Program → HartState → Type 0) : ℕ → Option HartState → Type 0 where
-  -- a refusal has its cause, its status and its line, and answers no hart
-  refused : (refusal : Refusal) → HasCause refusal given
-      → IsSilent out
-      → WasTold report (refusal_line (file_of given.words) refusal)
-      → Answers given out report heard (refusal_status refusal) None
-  runs : (image : Program) (status : ℕ) (hart : Option HartState)
-      → verb_of given.words ≡ Some Run
-      → IsImageOf given.told given.held image
-      → IsFaultless given.faults_before given.faults_now
-      → RunAnswers image out report (heard image) status hart
-      → Answers given out report heard status hart
-  lists : (what : ListingOf) (image : Program) (status : ℕ)
-      → verb_of given.words ≡ Some (Lists what)
-      → IsImageOf given.told given.held image
-      → IsFaultless given.faults_before given.faults_now
-      → ListAnswers what image out report status
-      → Answers given out report heard status None
+-- the ways in which a call ends
+pub data Answers (words : List (List ℕ)) (files : FilesAround) (out report : Around) : ℕ → Option StateValue → Type 0 where
+  -- no memory to read the words
+  starved : AreRead files → WasTold report out_of_memory_line → IsSilent out → AreKept files → Answers words files out report 7 None
+  unasked : (status : ℕ) → command_of words ≡ None → AreRead files → Refuses None Usage files out report status
+      → Answers words files out report status None
+  unbuilt : (command : CommandText) (status : ℕ) → command_of words ≡ Some command → IsUnbuilt command → AreRead files
+      → Refuses None Usage files out report status → Answers words files out report status None
+  runs : (options : RunOptions) (journal : Option (List ℕ)) (file : List ℕ) (plugins : List (List ℕ))
+      (status : ℕ) (state : Option StateValue)
+      → command_of words ≡ Some (Run options None journal file plugins)
+      → RunAnswers options None journal file plugins files out report status state
+      → Answers words files out report status state
+  sums_up : (n status : ℕ) (state : Option StateValue) → command_of words ≡ Some (Generated n)
+      → SelfAnswers n files out report status state → Answers words files out report status state
+  lists_blocks : (file : List ℕ) (status : ℕ) → command_of words ≡ Some (Blocks file)
+      → ListAnswers (Blocks file) listings.Blocks file files out report status
+      → Answers words files out report status None
+  lists_instructions : (file : List ℕ) (status : ℕ) → command_of words ≡ Some (Disas file)
+      → ListAnswers (Disas file) Instructions file files out report status
+      → Answers words files out report status None

@@ -1,7 +1,10 @@
-pub mod Words
 pub mod Sinks
-pub mod Runs
-pub mod Running
+pub mod Files
+pub mod Commands
+pub mod Telling
 pub mod Refusals
+pub mod Ends
+pub mod Summary
+pub mod Generated
 pub mod Answers
-pub mod Boxes
+pub mod Plain

@@ -47,3 +47,10 @@ WasTold sink line = SaysLine sink line ⊎ StopsAtLine sink line
 pub record IsSilent (sink : Around) : Type 0 where
   pub same : sink.now ≡ sink.before
   pub faultless : IsFaultless sink.faults_before sink.faults_now
+
+-- the sink gained one thing, and then another
+pub record Then (First Second : Around → Type 0) (sink : Around) : Type 0 where
+  pub between : Option (List (List ℕ))
+  pub faults_between : ℕ
+  pub first : First (record sink { now = between; faults_now = faults_between })
+  pub second : Second (record sink { before = between; faults_before = faults_between })

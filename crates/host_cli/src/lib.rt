@@ -1,13 +1,15 @@
 //! The top call: words to bytes and a status.
 #![tactic(auto)]
 
-pub use code_listing::ListingOf;
-pub use outcomes::{OneEnded, host_one};
-pub use refusals::{OUT_OF_MEMORY, Refusal};
-pub use words::Verb;
+pub use call_inputs::OUT_OF_MEMORY;
+pub use outcomes::{Ended, host};
+pub use plain_calls::host_plain;
 
-mod hart_lines;
+mod ending;
+mod generated;
+mod listing;
 mod outcomes;
-mod refusals;
-mod single_hart;
-mod words;
+mod plain_calls;
+mod refusing;
+mod running;
+mod summary;

@@ -7,13 +7,10 @@ use Rattle.run_order.specs.InOrder.{Task}
 use Rattle.baton_gate.specs.declared.gate.Gate.{Gate}
 use Rattle.host_state.specs.declared.states.HostState.{HostState}
 use Rattle.hart_runner.specs.declared.runners.Runner.{Runner}
-use Rattle.host_core.specs.Stages.{IsBetween, IsOver}
+use Rattle.host_core.specs.Stages.{IsOver}
 
 module _ {W C : Type 0} where
   -- a runner of this gate, as above
-  abbrev pub IsBetweenAt : Gate (Box (HostState W C) Global) Item Task → Runner W C → Type 0
-  IsBetweenAt gate r = IsBetween gate r.pass r.seat r.blocks r.lists
-
   abbrev pub IsOverAt : Gate (Box (HostState W C) Global) Item Task → Runner W C → Type 0
   IsOverAt gate r = IsOver gate r.pass
 

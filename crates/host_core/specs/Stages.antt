@@ -1,4 +1,4 @@
--- The runners of a run before its first hold, between their turns, and once their harts have left.
+-- The runners of a run before its first hold, and once their harts have left.
 use Rattle.std.specs.Prelude.{◌≡◌, ◌+◌, ℕ, true, false, List, [], map, replicate, All, Option, Some, MatchOption}
 use Rattle.std.specs.List.{range_with_len}
 use Rattle.flat_model.specs.declared.journals.Item.{Item}
@@ -42,16 +42,6 @@ module _ {S : Type 0} where
     pub sits : (t : Task) → carries pass ≡ Some t → MatchOption seat ⊥ (Sits t pass.party (seen pass))
     pub serves : (t : Task) → carries pass ≡ Some t → MayServe blocks t.machine.image
     pub kept : MatchOption seat ⊥ (HasLists lists)
-
-  -- or one whose hart has left since: it has no seat then
-  pub record IsBetween {W : Type 0} (gate : Gate S Item Task) (pass : Pass S Item Task) (seat : Option (Seat W)) (blocks : Option Program)
-      (lists : List KeptList) : Type 0 where
-    pub of_gate : IsPassOf gate pass
-    pub free : holds pass ≡ false
-    pub sits : (t : Task) → carries pass ≡ Some t
-        → MatchOption seat (HasLeftLast pass.party (seen pass)) (Sits t pass.party (seen pass))
-    pub serves : (t : Task) → carries pass ≡ Some t → MatchOption seat (Unit {0}) (λ _. MayServe blocks t.machine.image)
-    pub kept : MatchOption seat (Unit {0}) (HasLists lists)
 
   -- the pass of a runner whose hart has left
   pub record IsOver (gate : Gate S Item Task) (pass : Pass S Item Task) : Type 0 where

@@ -13,7 +13,7 @@ use baton_gate::{Gate, Pass};
 use block_finder::BlockCache;
 use flat_model::{Image, Mode, NoMemory, Plan};
 use guest_memory::Near;
-use hart_runner::{Runner, Seat};
+use hart_runner::{Runner, Seat, Tape};
 use host_state::{HostState, Specs};
 use instr_lists::ListCache;
 use rv_exec::{Hart, RawLog};
@@ -77,6 +77,7 @@ fn runner<W: Watcher, C: Closer<Held<W>>>(
         seat: Some(seat),
         blocks: BlockCache::new(alloc)?,
         lists: ListCache::new(alloc)?,
+        tape: Tape::new(alloc)?,
     })
 }
 

@@ -20,6 +20,7 @@ pub mod SmallSets
 pub mod Outgoing
 pub mod Telling
 pub mod WholeTurns
+pub mod WholeBlocks
 pub mod Finishing
 pub mod KeptClosers
 pub mod Controlling

@@ -36,7 +36,7 @@ use Rattle.host_state.proofs.Rows.{and_then, in_a_row}
 
 -- The steps that the hart makes by itself.
 
-abbrev stepped : HartState → Shared → List Event → Stepped
+abbrev pub stepped : HartState → Shared → List Event → Stepped
 stepped hart shared events = record { hart = hart; shared = shared; events = events }
 
 private_steps : (m : Machine) (h k : ℕ) (old mid : HartState) (shared : Shared) (events : List Event) → shared.group ≡ None
@@ -132,7 +132,7 @@ all_steps m h k r old mid new shared left events after made rest =
     ∙ (ap (λ (s : Stepped). and_then (stepped mid shared events) s) rest.steps
     ∙ ap (λ (es : List Event). stepped new left es) (sym rest.appended))
 
-rest_inside : (m : Machine) (h k r i : ℕ) (mid new : HartState) (shared left : Shared) (events after : List Event)
+pub rest_inside : (m : Machine) (h k r i : ℕ) (mid new : HartState) (shared left : Shared) (events after : List Event)
     → IsRest m h k r mid new shared left events after → i < r → GoesInside (k + i) (steps_of m h i mid shared).hart
 unfolding steps_of
 rest_inside m h k r zero mid new shared left events after rest below =

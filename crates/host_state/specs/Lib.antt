@@ -1,5 +1,6 @@
 pub mod Tables
 pub mod Moving
+pub mod MidTurns
 pub mod Rooms
 pub mod State
 pub mod Filters

@@ -1,6 +1,6 @@
 //! Orders that the boxes of a hart ask for.
 
-ghost use Rattle.std.specs.Prelude.{◌≡◌, ◌<◌, ◌≤◌, ◌+◌, ℕ, true, false, Some, None, length};
+ghost use Rattle.std.specs.Prelude.{◌≡◌, ◌∷◌, ◌<◌, ◌≤◌, ◌+◌, ℕ, true, false, Some, None, length};
 ghost use Rattle.flat_model.specs.Registry.{plugin_of};
 ghost use Rattle.flat_model.specs.Worlds.{world};
 ghost use Rattle.baton_gate.specs.Logs.{GoesOn};
@@ -13,7 +13,7 @@ ghost use Rattle.run_rules.specs.Places.{is_with_hart};
 ghost use Rattle.run_order.specs.Sets.{sets_for};
 ghost use Rattle.run_order.specs.InOrder.{task_run};
 ghost use Rattle.kept_order.specs.Hearing.{specs_for};
-ghost use Rattle.host_state.specs.Asking.{IsAskedBy, IsUnmoved, IsQuieted, withdrawal};
+ghost use Rattle.host_state.specs.Asking.{IsAskedBy, IsUnmoved, IsQuieted, withdrawal, asked_item};
 
 use crate::committing::with_item;
 use crate::states::HostState;
@@ -54,12 +54,13 @@ impl<W: Watcher, C: Closer<Held<W>>> HostState<W, C> {
         asks.first[usize::from(plugin - 1)]
     }
 
-    /// Records that a box of the plug-in on the hart asked for the withdrawal of its set.
-    fn withdraw(&mut self, no: u8, plugin: u8, how: How)
+    /// Records that a box of the plug-in on the hart asked for the withdrawal of its set, which waits.
+    pub fn withdraw(&mut self, no: u8, plugin: u8, how: How)
         requires least { 1 ≤ plugin }
         requires asked { asked_order plugin (waiting (task_run self.old.task) plugin no self.old.past) ≡ Some (withdrawal plugin how) }
         requires caught_up { wanted (task_run self.old.task) self.old.past ≡ None }
         requires room { 0 < self.old.journal.spare }
+        ensures recorded { self.new.past ≡ asked_item no plugin how ∷ self.old.past }
         ensures asked { GoesOn (IsAskedBy no) self.old.past self.new.past }
         ensures rest { self.new ≡ record self.old { past = self.new.past; journal = self.new.journal; registry = self.new.registry } }
         ensures unmoved { IsUnmoved self.old.task no self.old.past self.new.past }

@@ -193,8 +193,9 @@ impl<W: Watcher, C: Closer<Held<W>>> HostState<W, C> {
         least_ready(&self.registry, self.closers.as_slice())
     }
 
-    /// Takes the closing of a plug-in that is complete and whose closing isn't out.
-    fn take_out(&mut self, party: u8, plugin: u8) -> Closing<W, C>
+    /// Takes the closing of a plug-in that is complete and whose closing isn't out. It takes no memory.
+    pub fn take_closing_of(&mut self, party: u8, plugin: u8) -> Closing<W, C>
+        requires open { self.old.short ≡ false }
         requires due { is_due (task_run self.old.task) plugin self.old.past ≡ true }
         ensures plugin { result.plugin ≡ plugin }
         ensures out { IsOutWith party self.old self.new plugin (map as_notice (C.notices result.closer)) (as_notice result.back) }
@@ -244,7 +245,7 @@ impl<W: Watcher, C: Closer<Held<W>>> HostState<W, C> {
         } }
     {
         let plugin = self.due()?;
-        Some(self.take_out(party, plugin))
+        Some(self.take_closing_of(party, plugin))
     }
 
     /// Puts the closer of a plug-in back, which was told of its closing, and records the Done.

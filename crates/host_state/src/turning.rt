@@ -1,6 +1,7 @@
 //! Turns of whole blocks.
 
-ghost use Rattle.std.specs.Prelude.{◌≡◌, ◌<◌, ◌≤◌, ◌+◌, ◌*◌, ℕ, true, false, None, min, length};
+ghost use Rattle.std.specs.Prelude.{◌≡◌, ◌<◌, ◌≤◌, ◌+◌, ◌*◌, ◌↔◌, [], ℕ, true, false, None, IsTrue, min, length};
+ghost use Rattle.flat_model.specs.declared.limits.TheConstants.{BLOCK_WORDS};
 ghost use Rattle.flat_model.specs.Log.{steps};
 ghost use Rattle.flat_model.specs.Step.{steps_of};
 ghost use Rattle.flat_model.specs.Worlds.{world, hart_of};
@@ -12,6 +13,7 @@ ghost use Rattle.run_rules.specs.Laws.{MayTurn};
 ghost use Rattle.run_rules.specs.Places.{IsStateLog, takes_all};
 ghost use Rattle.run_order.specs.InOrder.{task_run};
 ghost use Rattle.kept_order.specs.Lying.{GoesInside};
+ghost use Rattle.host_state.specs.MidTurns.{IsMidTurn};
 ghost use Rattle.host_state.specs.Moving.{IsPrivateTurn, StaysInside, IsAtWord, IsRest};
 
 use crate::committing::with_steps;
@@ -144,5 +146,80 @@ impl<W: Watcher, C: Closer<Held<W>>> HostState<W, C> {
         self.journal.push(Entry::Turn { hart: no, n });
         self.past = with_steps(&self.past, no, n);
         n
+    }
+
+    /// Whether there is room for one Turn more: for an entry of the journal, and for what one call of `write` appends.
+    pub fn has_turn_room(&self) -> bool
+        ensures room { IsTrue result ↔ ((0 < self.now.journal.spare) × HasRoom self.now.services) }
+    {
+        self.journal.spare() > 0 && self.services.has_room()
+    }
+
+    /// Records one more block of a Turn of which the hart has made `made` steps since it could begin it: a whole block, which it
+    /// makes here with what is shared. Answers how many steps they are. The Turn has at most 512 then.
+    pub fn commit_block(
+        &mut self,
+        no: u8,
+        hart: &mut Hart,
+        made: u32,
+        block: &Block,
+        near: &mut Near,
+        raw: &mut RawLog,
+    ) -> u32
+        requires open { self.old.short ≡ false }
+        requires turning { IsMidTurn (task_run self.old.task) no made self.old.past }
+        requires words { 0 < block.now.n }
+        requires fits { made + block.now.n < BLOCK_WORDS }
+        requires room { 0 < self.old.journal.spare }
+        requires output { HasRoom self.old.services }
+        requires group { self.old.services.group ≡ None }
+        requires hart { hart.old ≡ hart_of self.old.task.machine self.old.task.mode self.old.past no }
+        requires awake { hart.old.parked ≡ false }
+        requires running { hart.old.ending ≡ None }
+        requires below { hart.old.steps < self.old.task.machine.limit }
+        requires starts { hart.old.since ≡ 0 }
+        requires block { IsBlock self.old.task.machine.image hart.old.pc block.now }
+        requires untold { raw.old.events ≡ [] }
+        ensures steps { self.new.past ≡ steps no result self.old.past }
+        ensures turning { IsMidTurn (task_run self.new.task) no (made + result) self.new.past }
+        ensures some { 0 < result }
+        ensures most { made + result ≤ BLOCK_WORDS }
+        ensures hart { hart.new ≡ hart_of self.new.task.machine self.new.task.mode self.new.past no }
+        ensures told { raw.new.events ≡ (steps_of self.old.task.machine no result hart.old
+            (world self.old.task.machine self.old.task.mode self.old.past).shared).events }
+        ensures inside { (j : ℕ) → j < result → GoesInside j (steps_of self.old.task.machine no j hart.old
+            (world self.old.task.machine self.old.task.mode self.old.past).shared).hart }
+        ensures legal { Legal (task_run self.new.task) self.new.past }
+        ensures state_log { IsStateLog (task_run self.new.task) self.new.past }
+        ensures rest { self.new ≡ record self.old {
+          past = self.new.past;
+          journal = self.new.journal;
+          memory = self.new.memory;
+          services = self.new.services;
+        } }
+        ensures room { self.old.journal.spare ≤ self.new.journal.spare + 1 }
+
+        // What the next block needs.
+        ensures awake { hart.new.parked ≡ false }
+        ensures leaves { hart.new.ending ≡ None → hart.new.since ≡ 0 }
+        ensures within_limit { hart.new.ending ≡ None → hart.new.steps < self.old.task.machine.limit }
+        ensures going_on { hart.new.ending ≡ None → self.new.services.group ≡ None }
+        ensures kept { raw.new.kept ≡ raw.old.kept }
+    {
+        let more = shared_run(
+            no,
+            hart,
+            self.task.image(),
+            block,
+            0,
+            &mut self.memory,
+            &mut self.services,
+            self.task.limit(),
+            near,
+            raw,
+        );
+        self.journal.push(Entry::Turn { hart: no, n: more });
+        self.past = with_steps(&self.past, no, more);
+        more
     }
 }

@@ -1,16 +1,17 @@
-//! Calls of the program on one file.
+//! Calls of the program on files and sinks in memory.
 
-ghost use Rattle.std.specs.Prelude.{◌≡◌, None, All};
+ghost use Rattle.std.specs.Prelude.{◌≤◌, vec_len};
+ghost use Rattle.flat_model.specs.declared.limits.TheConstants.{PLUGINS_MOST, RACK_BOXES};
 
-use crate::boxes::Listener;
-use crate::files::{CODE, EXIT_0, elf};
-use flat_model::Event;
-use host_cli::{OneEnded, host_one};
+use host_cli::host;
 use outer_io::{MemFiles, MemSink};
 use std::alloc::{AllocError, Global};
 use std::process::Abort;
+use std::sync::Wait;
 use std::test::Fail;
-use watcher_api::Watcher;
+use std::thread::Threads;
+use stock_watchers::stock_rack;
+use watcher_api::{Closer, Held, Rack, Watcher};
 
 /// The words of a call.
 pub fn texts(alloc: Global, words: &[&str]) -> Result<Vec<String>, AllocError> {
@@ -44,81 +45,63 @@ pub fn failing_sink(alloc: Global, put: u64) -> Result<MemSink, AllocError> {
 #[derive(Drop)]
 pub struct Finished {
     pub status: u8,
-    pub out: MemSink,
-    pub report: MemSink,
-    /// What the first box has heard.
-    pub events: Vec<Event>,
-}
-
-/// What a call with boxes answers, and what it leaves.
-#[derive(Drop)]
-pub struct Boxed<W: Drop> {
-    pub ended: OneEnded<W>,
+    /// Whether it answers the state of a whole run.
+    pub has_run: bool,
     pub out: MemSink,
     pub report: MemSink,
 }
 
 /// Calls the program with these words, files, sinks and boxes.
-fn called_with<W: Watcher>(
+pub fn called_with<W: Watcher + Send, C: Closer<Held<W>> + Send, R: Threads + Wait + Sync>(
+    rt: &R,
     alloc: Global,
     words: &[&str],
     files: &mut MemFiles,
     out: MemSink,
     report: MemSink,
-    boxes: Vec<W>,
-) -> Result<Boxed<W>, AllocError>
-    requires blank { All (λ w. W.kind_of w ≡ None) boxes.items }
+    rack: Rack<W, C>,
+) -> Result<Finished, AllocError>
+    requires boxes { RACK_BOXES ≤ vec_len rack.watchers }
+    requires closers { PLUGINS_MOST ≤ vec_len rack.closers }
 {
     let mut out = out;
     let mut report = report;
     let words = texts(alloc, words)?;
-    let ended = host_one(alloc, &words, files, &mut out, &mut report, boxes);
-    Ok(Boxed { ended, out, report })
+    let ended = host(rt, alloc, &words, files, &mut out, &mut report, rack);
+    Ok(Finished {
+        status: ended.status,
+        has_run: ended.state.is_some(),
+        out,
+        report,
+    })
 }
 
-/// What `run F` answers and leaves for three words that exit with 0, with these boxes.
-pub fn exited_with<W: Watcher>(alloc: Global, boxes: Vec<W>) -> Result<Boxed<W>, AllocError>
-    requires blank { All (λ w. W.kind_of w ≡ None) boxes.items }
-{
-    let mut files = only_file(alloc, &elf(alloc, CODE, &EXIT_0)?);
-    let out = good_sink(alloc);
-    let report = good_sink(alloc);
-    called_with(alloc, &["run", "F"], &mut files, out, report, boxes)
-}
-
-/// Calls the program with these words, files and sinks.
-pub fn called(
+/// Calls the program with these words, files and sinks, and the stock boxes.
+pub fn called<R: Threads + Wait + Sync>(
+    rt: &R,
     alloc: Global,
     words: &[&str],
     files: &mut MemFiles,
     out: MemSink,
     report: MemSink,
 ) -> Result<Finished, Fail> {
-    let mut boxes = Vec::new(alloc);
-    boxes.push(Listener::blank(alloc))?;
-    let Boxed { ended, out, report } = called_with(alloc, words, files, out, report, boxes)?;
-    let OneEnded {
-        status,
-        mut watchers,
-        ..
-    } = ended;
-    match watchers.pop() {
-        Some(Listener { events, .. }) => Ok(Finished {
-            status,
-            out,
-            report,
-            events,
-        }),
-        None => Err("no box is handed back".into()),
-    }
+    let rack = stock_rack(alloc)?;
+    let finished = called_with(rt, alloc, words, files, out, report, rack)?;
+    Ok(finished)
 }
 
-/// What `run F` answers and leaves for a file, with good sinks.
-pub fn ran(alloc: Global, file: &[u8]) -> Result<Finished, Fail> {
+/// What these words answer and leave where `F` is this file, with good sinks.
+pub fn asked<R: Threads + Wait + Sync>(
+    rt: &R,
+    alloc: Global,
+    words: &[&str],
+    file: &[u8],
+) -> Result<Finished, Fail> {
     let mut files = only_file(alloc, file);
     called(
+        rt,
         alloc,
-        &["run", "F"],
+        words,
         &mut files,
         good_sink(alloc),
         good_sink(alloc),
@@ -126,14 +109,14 @@ pub fn ran(alloc: Global, file: &[u8]) -> Result<Finished, Fail> {
 }
 
 /// Asserts what `run F` answers and reports for a file that puts nothing out.
-pub fn assert_run(
-    rt: &impl Abort,
+pub fn assert_run<R: Abort + Threads + Wait + Sync>(
+    rt: &R,
     alloc: Global,
     file: &[u8],
     status: u8,
     line: &str,
 ) -> Result<(), Fail> {
-    let run = ran(alloc, file)?;
+    let run = asked(rt, alloc, &["run", "F"], file)?;
     assert_eq!(rt; run.report.bytes(), line.as_bytes(), "the line {line}");
     assert_eq!(rt; run.status, status, "the status of {line}");
     assert_eq!(rt; run.out.bytes().len(), 0, "the output of {line}");

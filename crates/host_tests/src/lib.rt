@@ -5,15 +5,13 @@
 #[cfg(test)]
 mod block_tests;
 #[cfg(test)]
-mod boxes;
-#[cfg(test)]
 mod calls;
-#[cfg(test)]
-mod event_tests;
 #[cfg(test)]
 mod files;
 #[cfg(test)]
 mod guests;
+#[cfg(test)]
+mod hart_tests;
 #[cfg(test)]
 mod image_tests;
 #[cfg(test)]
@@ -21,9 +19,13 @@ mod listing_tests;
 #[cfg(test)]
 mod output_tests;
 #[cfg(test)]
+mod plugin_tests;
+#[cfg(test)]
 mod refusal_tests;
 #[cfg(test)]
 mod run_tests;
+#[cfg(test)]
+mod self_tests;
 #[cfg(test)]
 mod step_tests;
 #[cfg(test)]

@@ -42,6 +42,7 @@ fn code_is_listed_by_words_and_by_blocks(rt: HostRuntime) -> Result<(), Fail> {
     ] {
         let mut files = only_file(alloc, file);
         let call = called(
+            &rt,
             alloc,
             &[verb, "F"],
             &mut files,
@@ -51,7 +52,7 @@ fn code_is_listed_by_words_and_by_blocks(rt: HostRuntime) -> Result<(), Fail> {
         assert_eq!(rt; call.out.bytes(), want.as_bytes(), "the lines {want}");
         assert_eq!(rt; call.report.bytes(), b"".as_slice());
         assert_eq!(rt; call.status, 0);
-        assert_eq!(rt; call.events.len(), 0);
+        assert!(rt; !call.has_run);
     }
     Ok(())
 }
@@ -62,7 +63,7 @@ fn a_listing_that_is_not_put_out_is_a_fault(rt: HostRuntime) -> Result<(), Fail>
     let mut files = only_file(alloc, &elf(alloc, CODE, &EXIT_0)?);
     for verb in ["disas", "blocks"] {
         let out = failing_sink(alloc, 1)?;
-        let call = called(alloc, &[verb, "F"], &mut files, out, good_sink(alloc))?;
+        let call = called(&rt, alloc, &[verb, "F"], &mut files, out, good_sink(alloc))?;
         assert_eq!(rt; call.status, 6);
         assert_eq!(rt; call.out.bytes(), b"".as_slice());
         assert_eq!(rt; call.report.bytes(), b"".as_slice());

@@ -1,4 +1,4 @@
-use crate::calls::{called, failing_sink, good_sink, only_file, ran};
+use crate::calls::{asked, called, failing_sink, good_sink, only_file};
 use crate::files::{ECALL, with_data};
 use std::test::Fail;
 
@@ -63,7 +63,7 @@ fn what_the_guest_writes_is_put_out(rt: HostRuntime) -> Result<(), Fail> {
             [4096].as_slice(),
         ),
     ] {
-        let run = ran(alloc, &with_data(alloc, words)?)?;
+        let run = asked(&rt, alloc, &["run", "F"], &with_data(alloc, words)?)?;
         assert_eq!(rt; run.status, status);
         assert_eq!(rt; run.report.bytes(), line.as_bytes());
         assert_eq!(rt; run.out.piece_lengths(), pieces);
@@ -77,7 +77,7 @@ fn output_that_is_cut_short_leaves_no_line(rt: HostRuntime) -> Result<(), Fail> 
     let alloc = rt.alloc();
     let mut files = only_file(alloc, &with_data(alloc, &TWO_PIECES)?);
     let out = failing_sink(alloc, 2)?;
-    let run = called(alloc, &["run", "F"], &mut files, out, good_sink(alloc))?;
+    let run = called(&rt, alloc, &["run", "F"], &mut files, out, good_sink(alloc))?;
     assert_eq!(rt; run.status, 6);
     assert!(rt; are_zeros(run.out.bytes(), 4096));
     assert_eq!(rt; run.report.bytes(), b"".as_slice());
@@ -87,7 +87,7 @@ fn output_that_is_cut_short_leaves_no_line(rt: HostRuntime) -> Result<(), Fail> 
 #[test]
 fn a_write_past_the_limit_of_the_output_is_refused(rt: HostRuntime) -> Result<(), Fail> {
     let alloc = rt.alloc();
-    let run = ran(alloc, &with_data(alloc, &ALL_PIECES)?)?;
+    let run = asked(&rt, alloc, &["run", "F"], &with_data(alloc, &ALL_PIECES)?)?;
     assert_eq!(rt; run.status, 1);
     assert_eq!(rt;
         run.report.bytes(),

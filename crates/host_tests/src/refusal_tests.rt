@@ -24,19 +24,54 @@ fn each_refusal_has_its_status_and_line(rt: HostRuntime) -> Result<(), Fail> {
             "tcg_host: image: file too short: need 64, got 0\n",
         ),
         (["run", "BAD"].as_slice(), 4, "tcg_host: image: not ELF\n"),
-        (["run"].as_slice(), 2, "tcg_host: not built\n"),
-        (["run", "F", "F"].as_slice(), 2, "tcg_host: not built\n"),
-        (["run", "-F"].as_slice(), 2, "tcg_host: not built\n"),
-        (["walk", "F"].as_slice(), 2, "tcg_host: not built\n"),
-        (["walk", "none"].as_slice(), 2, "tcg_host: not built\n"),
-        (["walk", "BAD"].as_slice(), 2, "tcg_host: not built\n"),
-        ([].as_slice(), 2, "tcg_host: not built\n"),
+        (
+            ["run"].as_slice(),
+            2,
+            "usage: tcg_host run, replay, blocks, disas or self\n",
+        ),
+        (
+            ["run", "--harts", "33", "F"].as_slice(),
+            2,
+            "usage: tcg_host run, replay, blocks, disas or self\n",
+        ),
+        (
+            ["run", "-F"].as_slice(),
+            2,
+            "usage: tcg_host run, replay, blocks, disas or self\n",
+        ),
+        (
+            ["walk", "F"].as_slice(),
+            2,
+            "usage: tcg_host run, replay, blocks, disas or self\n",
+        ),
+        (
+            ["walk", "none"].as_slice(),
+            2,
+            "usage: tcg_host run, replay, blocks, disas or self\n",
+        ),
+        (
+            ["walk", "BAD"].as_slice(),
+            2,
+            "usage: tcg_host run, replay, blocks, disas or self\n",
+        ),
+        (
+            [].as_slice(),
+            2,
+            "usage: tcg_host run, replay, blocks, disas or self\n",
+        ),
     ] {
-        let call = called(alloc, words, &mut files, good_sink(alloc), good_sink(alloc))?;
+        let call = called(
+            &rt,
+            alloc,
+            words,
+            &mut files,
+            good_sink(alloc),
+            good_sink(alloc),
+        )?;
         assert_eq!(rt; call.report.bytes(), line.as_bytes());
         assert_eq!(rt; call.report.piece_lengths().len(), 1);
         assert_eq!(rt; call.status, status);
-        assert_eq!(rt; call.events.len(), 0);
+        assert!(rt; !call.has_run);
     }
     Ok(())
 }
@@ -49,7 +84,14 @@ fn failing_calls_of_files_and_sinks_have_their_statuses(rt: HostRuntime) -> Resu
     first.push(1)?;
     let mut files = MemFiles::new(alloc, first, Vec::new(alloc));
     let _ = files.add("F", &elf(alloc, CODE, &EXIT_0)?);
-    let unread = called(alloc, &run, &mut files, good_sink(alloc), good_sink(alloc))?;
+    let unread = called(
+        &rt,
+        alloc,
+        &run,
+        &mut files,
+        good_sink(alloc),
+        good_sink(alloc),
+    )?;
     assert_eq!(rt; unread.status, 3);
     assert_eq!(rt;
         unread.report.bytes(),
@@ -59,7 +101,7 @@ fn failing_calls_of_files_and_sinks_have_their_statuses(rt: HostRuntime) -> Resu
     // The report's one put fails: after a run, and after a refusal.
     for (words, status) in [(run.as_slice(), 6), (["walk"].as_slice(), 2)] {
         let report = failing_sink(alloc, 1)?;
-        let call = called(alloc, words, &mut files, good_sink(alloc), report)?;
+        let call = called(&rt, alloc, words, &mut files, good_sink(alloc), report)?;
         assert_eq!(rt; call.status, status);
         assert_eq!(rt; call.report.bytes(), b"".as_slice());
     }

@@ -26,7 +26,7 @@ use Rattle.instr_lists.specs.Sorts.{passes}
 use Rattle.instr_lists.specs.Slots.{slots_in, slots_from}
 use Rattle.instr_lists.specs.Lists.{Listed, HasClasses, AreHeard}
 use Rattle.instr_lists.specs.Delivery.{acts_with, no_asks, act_at, IsThere, all_act, each_hears, each_walks}
-use Rattle.instr_lists.specs.Delivery.{StopsAtCall, StopsAtSlot, StopsIn}
+use Rattle.instr_lists.specs.Delivery.{StopsAmong, StopsAtCall, StopsAtSlot, StopsIn}
 use Rattle.instr_lists.proofs.InARow.{take_here}
 use Rattle.instr_lists.proofs.Resolving.{drop_here}
 use Rattle.instr_lists.proofs.Hearing.{acts_alone}
@@ -196,17 +196,28 @@ has_classes image block is = record {
 }
 
 -- where an event was refused
-pub stops_at : (classes : Classes) (sets : List (ℕ × SetSpec)) (raw : List Event) (i : ℕ) (d : Event) (old between new : List Attachment)
-    (asks later : List Ask) → i < length raw
-    → walks_of asks between ≡ each_walks classes sets (take i raw) (walks_of no_asks old)
-    → StopsAtCall classes sets (slice_index_or raw i d) (walks_of asks between) (walks_of later new)
-    → StopsIn classes sets raw old new
-stops_at classes sets raw i d old between new asks later below walked stops = record {
+pub stops_at : (classes : Classes) (sets : List (ℕ × SetSpec)) (raw : List Event) (i : ℕ) (d : Event) (between from now : List Walk)
+    → i < length raw → between ≡ each_walks classes sets (take i raw) from
+    → StopsAtCall classes sets (slice_index_or raw i d) between now
+    → StopsAmong classes sets raw from now
+stops_at classes sets raw i d between from now below walked stops = record {
   before = take i raw;
   event = slice_index_or raw i d;
   after = drop (i + 1) raw;
   events = sym (take-append-drop i raw)
       ∙ ap (λ l. take i raw ++ l) (drop_here raw i (slice_index_or raw i d) below (get_or_default raw i d (slice_index_or raw i d) below));
+  stops = subst (λ ws. StopsAtCall classes sets (slice_index_or raw i d) ws now) walked stops;
+}
+
+-- where nobody had asked
+pub stops_first : (classes : Classes) (sets : List (ℕ × SetSpec)) (raw : List Event) (old new : List Attachment) (first later : List Ask)
+    → first ≡ no_asks → StopsAmong classes sets raw (walks_of first old) (walks_of later new) → StopsIn classes sets raw old new
+stops_first classes sets raw old new first later none stops = record {
+  before = stops.before;
+  event = stops.event;
+  after = stops.after;
+  events = stops.events;
   asks = later;
-  stops = subst (λ ws. StopsAtCall classes sets (slice_index_or raw i d) ws (walks_of later new)) walked stops;
+  stops = subst (λ (l : List Ask). StopsAtCall classes sets stops.event (each_walks classes sets stops.before (walks_of l old))
+      (walks_of later new)) none stops.stops;
 }

@@ -51,7 +51,15 @@ pub record StopsAtCall (classes : Classes) (sets : List (ℕ × SetSpec)) (e : E
   pub calls : calls_at sub.act (slice_index_or now (length ahead) no_walk).column ≡ true
   pub came : now ≡ has_come classes ahead first e from
 
--- the same, of events in their order and of the sets that are attached
+-- the same, of events in their order
+pub record StopsAmong (classes : Classes) (sets : List (ℕ × SetSpec)) (raw : List Event) (from now : List Walk) : Type 0 where
+  pub before : List Event
+  pub event : Event
+  pub after : List Event
+  pub events : raw ≡ before ++ event ∷ after
+  pub stops : StopsAtCall classes sets event (each_walks classes sets before from) now
+
+-- and of the sets that are attached, where nobody has asked
 pub record StopsIn (classes : Classes) (sets : List (ℕ × SetSpec)) (raw : List Event) (old new : List Attachment) : Type 0 where
   pub before : List Event
   pub event : Event

@@ -8,7 +8,7 @@ ghost use Rattle.event_walk.specs.Matches.{Classes, classes_of};
 ghost use Rattle.watcher_api.specs.Acting.{acts_of, ask_of, walks_of, IsAbsent};
 ghost use Rattle.instr_lists.specs.Sorts.{LiesIn};
 ghost use Rattle.instr_lists.specs.Lists.{HasClasses};
-ghost use Rattle.instr_lists.specs.Delivery.{acts_with, no_asks, each_hears, each_walks, StopsAtCall, StopsIn};
+ghost use Rattle.instr_lists.specs.Delivery.{acts_with, no_asks, each_hears, each_walks, StopsAmong, StopsAtCall, StopsIn};
 ghost use Rattle.instr_lists.specs.Delivery.{IsThere, all_act, StopsAtSlot};
 
 use crate::blocks::BlockList;
@@ -60,6 +60,32 @@ fn hear_event<W: Watcher>(
     hear_all(list.slots(&e.what), e, attached, asks)
 }
 
+/// Delivers more events of a hart, which steps in the block of the list gave, to the hart's attached sets: at each event the
+/// sets in their order, and the subscriptions of each by index. What a plug-in asks for is noted where it hasn't asked before.
+/// Where a box finds no memory, what was done before stays.
+pub fn deliver_on<W: Watcher>(
+    list: &BlockList,
+    raw: &[Event],
+    attached: &mut Attached<W>,
+    asks: &mut Asks,
+) -> Result<(), NoMemory>
+    requires these { acts_of attached.old ≡ acts_with list.now.sets }
+    requires lies { All (λ e. LiesIn list.now.block e.what) raw.now }
+    ensures same { acts_of attached.new ≡ acts_of attached.old }
+    ensures others { (p : ℕ) → 1 ≤ p → IsAbsent p attached.old → ask_of p asks.new.first ≡ ask_of p asks.old.first }
+    ensures delivered { MatchResult result
+        (λ _. (image : Program) → IsBlock image list.now.block.pc list.now.block → walks_of asks.new.first attached.new
+        ≡ each_walks (classes_of image) list.now.sets raw.now (walks_of asks.old.first attached.old))
+        (λ _. (image : Program) → IsBlock image list.now.block.pc list.now.block
+        → StopsAmong (classes_of image) list.now.sets raw.now
+        (walks_of asks.old.first attached.old) (walks_of asks.new.first attached.new)) }
+{
+    for e in raw {
+        hear_event(list, e, attached, asks)?;
+    }
+    Ok(())
+}
+
 /// Delivers events of a hart, which steps in the block of the list gave, to the hart's attached sets: at each event the
 /// sets in their order, and the subscriptions of each by index. For each plug-in it answers what it asked for first. Where
 /// a box finds no memory, what was done before stays.
@@ -79,8 +105,6 @@ pub fn deliver<W: Watcher>(
     ensures others { IfOk result (λ asks. (p : ℕ) → 1 ≤ p → IsAbsent p attached.old → ask_of p asks.first ≡ Stay) }
 {
     let mut asks = Asks::none();
-    for e in raw {
-        hear_event(list, e, attached, &mut asks)?;
-    }
+    deliver_on(list, raw, attached, &mut asks)?;
     Ok(asks)
 }

@@ -3,7 +3,7 @@
 
 pub use blocks::{BlockList, build};
 pub use caching::ListCache;
-pub use delivery::deliver;
+pub use delivery::{deliver, deliver_on};
 pub use kept_lists::KeptList;
 pub use words::deliver_words;
 

@@ -124,6 +124,7 @@ pub fn shared_run(
         (steps_of (machine_on image.now memory.old limit) no j hart.old (shared_of memory.old services.old)).hart ≡ false }
     ensures some { 0 < result }
     ensures most { first + result ≤ 512 }
+    ensures words { first + result ≤ length block.now.sites + 1 }
     ensures leaves { hart.new.ending ≡ None → hart.new.since ≡ 0 }
 
     // What the next step needs.

@@ -1,57 +1,56 @@
-use Rattle.std.proofs.Common.{◌<◌, ◌%◌, ◌^◌, ◌∙◌, ap, sym, subst, arith}
+use Rattle.std.proofs.Common.{◌<◌, ◌%◌, ◌∙◌, ap, sym, subst, arith, length}
+use Rattle.std.proofs.lemmas.Bool.{lt-ltb}
 use Rattle.flat_model.specs.World.{HartState, IsHart}
-use Rattle.host_state.specs.State.{StateValue}
-use Rattle.hart_runner.proofs.Held.{IsCommitted, entered_hart, same_hart, starts_so, turned, turned_hold, running_seated, over_leaves}
-use Rattle.hart_runner.proofs.holding.hold_running.Given.{Over}
+use Rattle.hart_runner.specs.declared.holding.Hold.TheVariants.{Turned}
+use Rattle.hart_runner.specs.Holds.{IsHeld, IsHold}
+use Rattle.hart_runner.proofs.Held.{entered_hart, same_hart, turned_on, turned_hold_on, running_seated, over_leaves}
 use Rattle.hart_runner.proofs.holding.hold_running.Goals as goal
-
--- the Turn that is recorded
-committed : (g : Over) (c : goal.After-seat-1 g)
-    → IsCommitted c.enter.new.seat.no c.commit_turn.result c.enter.new.state c.commit_turn.new.self c.enter.new.seat.hart
-    c.commit_turn.new.hart c.commit_turn.new.raw.events
-committed g c =
-    let did = c.commit_turn.ensures in
-    record {
-      steps = did.steps;
-      some = did.some;
-      most = did.most;
-      hart = did.hart;
-      events = did.told;
-      inside = did.inside;
-      legal = did.legal;
-      state_log = did.state_log;
-      task = ap (λ (s : StateValue). s.task) did.rest;
-      awake = did.awake;
-      leaves = did.leaves;
-      within_limit = did.within_limit;
-    }
 
 pub returns-then-is_none-clause-held : goal.returns-then-is_none-clause-held
 returns-then-is_none-clause-held g c =
     let is = c.in_ok-gave_back.ensures in
+    let first = c.in_ok-made.ensures in
+    let on = c.go_on.ensures in
     let hart = ap (λ s. s.hart) is.seat in
     let view = ap (λ s. s.hart) c.seat.view_is in
     let whole = subst IsHart view c.seat.invariant in
-    let small = subst (λ (x : HartState). x.pc < 2 ^ 64) view (omega arith) in
-    turned c.enter.new.seat.no c.commit_turn.result c.args.state.now.past c.enter.new.state c.commit_turn.new.self _ _
-    c.enter.new.seat.asks.first
-    c.enter.new.seat.hart _ _ c.args.block.now is.entered (committed g c)
+    let aligned = ap (λ (x : HartState). x.pc % 4) hart ∙ whole.aligned in
+    subst (λ pc. IsHeld Turned c.commit_first.new.seat.no c.args.state.now.past c.go_on.new.state c.go_on.new.hart
+    c.commit_first.new.seat.attached c.commit_first.new.seat.specs c.commit_first.new.seat.asks.first c.commit_first.new.seat.raw.events
+    pc c.go_on.new.tape.pieces.items)
+    (ap (λ (x : HartState). x.pc) hart)
+    (subst (λ s. IsHeld Turned s.no c.args.state.now.past c.go_on.new.state c.go_on.new.hart s.attached s.specs s.asks.first
+    c.commit_first.new.seat.raw.events c.enter.new.seat.hart.pc c.go_on.new.tape.pieces.items)
+    (sym first.seat)
+    (turned_on c.enter.new.seat.no c.commit_first.new.seat.no c.in_ok-made.made c.go_on.result c.args.state.now.past c.enter.new.state
+    c.commit_first.new.state c.go_on.new.state c.enter.new.seat.attached c.enter.new.seat.specs c.enter.new.seat.asks.first
+    c.enter.new.seat.hart c.commit_first.new.seat.hart c.go_on.new.hart c.commit_first.new.seat.raw.events c.enter.new.seat.hart.pc _
+    c.args.tape.now.pieces.items c.go_on.new.tape.pieces.items
+    (ap (λ s. s.no) first.seat) is.entered
     (entered_hart c.args.state.now.task c.enter.new.seat.no c.args.state.now.past c.enter.new.state _ _ c.enter.new.seat.hart is.entered
     is.task
     (same_hart c.args.state.now.task c.args.state.now.past c.args.seat.now.no c.enter.new.seat.no c.args.seat.now.hart c.enter.new.seat.hart
-    (ap (λ s. s.no) is.seat) (ap (λ s. s.hart) is.seat) (c.requires.back.hart c.requires.awake)))
-    (starts_so c.args.state.now.task c.enter.new.state.task c.args.seat.now.hart c.enter.new.seat.hart c.args.block.now is.task hart
-    c.requires.block)
-    (ap (λ (x : HartState). x.since) hart ∙ c.requires.begins)
-    (ap (λ (x : HartState). x.pc % 4) hart ∙ whole.aligned)
-    (subst (λ (x : HartState). x.pc < 2 ^ 64) (sym hart) small)
+    (ap (λ s. s.no) is.seat) hart (c.requires.back.hart c.requires.awake)))
+    first.committed aligned first.lies on.gone on.task c.task-then-is_none.ensures.order on.going on.most c.requires.empty
+    (λ has. lt-ltb 0 c.len-has_sets.result (omega (arith, has, c.len-has_sets.ensures.length, ap (λ s. length s.attached) first.seat)))))
 
 pub returns-then-is_none-clause-hold : goal.returns-then-is_none-clause-hold
 returns-then-is_none-clause-hold g c =
     let is = c.in_ok-gave_back.ensures in
-    turned_hold c.enter.new.seat.no c.commit_turn.result c.args.state.now c.enter.new.state c.commit_turn.new.self _ _
-    c.enter.new.seat.hart _ _
-    is.entered (committed g c) is.task c.requires.plain
+    let first = c.in_ok-made.ensures in
+    let on = c.go_on.ensures in
+    let hart = ap (λ s. s.hart) is.seat in
+    subst (λ n. IsHold n c.args.state.now c.go_on.new.state) (sym (ap (λ s. s.no) first.seat))
+    (turned_hold_on c.enter.new.seat.no c.commit_first.new.seat.no c.in_ok-made.made c.go_on.result c.args.state.now c.enter.new.state
+    c.commit_first.new.state c.go_on.new.state c.enter.new.seat.attached c.enter.new.seat.specs
+    c.enter.new.seat.hart c.commit_first.new.seat.hart c.go_on.new.hart c.commit_first.new.seat.raw.events _
+    c.args.tape.now.pieces.items c.go_on.new.tape.pieces.items
+    (ap (λ s. s.no) first.seat) is.entered
+    (entered_hart c.args.state.now.task c.enter.new.seat.no c.args.state.now.past c.enter.new.state _ _ c.enter.new.seat.hart is.entered
+    is.task
+    (same_hart c.args.state.now.task c.args.state.now.past c.args.seat.now.no c.enter.new.seat.no c.args.seat.now.hart c.enter.new.seat.hart
+    (ap (λ s. s.no) is.seat) hart (c.requires.back.hart c.requires.awake)))
+    first.committed on.gone on.task c.task-then-is_none.ensures.order on.going on.most is.task c.requires.plain)
 
 pub returns-then-gave_back-clause-held : goal.returns-then-gave_back-clause-held
 returns-then-gave_back-clause-held g c =

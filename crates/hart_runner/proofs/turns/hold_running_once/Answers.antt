@@ -12,7 +12,7 @@ use Rattle.hart_runner.proofs.turns.hold_running_once.Goals as goal
 pub take_running_part-held-requires-clause-comes : goal.take_running_part-held-requires-clause-comes
 take_running_part-held-requires-clause-comes g c =
     let b = c.deref_mut.ensures.value in
-    comes_ahead c.args.place.now c.deref_mut.result.now c.args.pass.now.party (seen c.args.pass.now) c.args.ahead c.args.block.now
+    comes_ahead c.args.place.now c.deref_mut.result.now c.args.pass.now.party (seen c.args.pass.now) c.args.ahead
     (subst (λ (s : StateValue). InOrder s.task (stored_of s)) (c.deref.ensures ∙ sym b) c.task.ensures.order)
     (subst (λ (s : StateValue). GoesOn (λ i. party i ≢ c.args.pass.now.party) (seen c.args.pass.now) s.past) (sym b)
     c.take-state.ensures.log)
@@ -38,7 +38,7 @@ give-requires-clause-log g c =
 pub returns-clause-gone : goal.returns-clause-gone
 returns-clause-gone g c = λ t e.
     let b = c.deref_mut.ensures.value in
-    part_gone (λ hold u taken past seat. IsPart hold u taken past c.args.block.now seat c.take_running_part-held.new.place)
+    part_gone (λ hold u taken past seat. IsPart hold u taken past c.take_running_part-held.new.tape.pieces.items seat c.take_running_part-held.new.place)
     c.args.place.now _ c.args.pass.now.party (seen c.args.pass.now) _ t
     c.deref_mut.result.now c.take_running_part-held.new.state
     (subst (λ (s : StateValue). GoesOn (λ i. party i ≢ c.args.pass.now.party) (seen c.args.pass.now) s.past) (sym b)

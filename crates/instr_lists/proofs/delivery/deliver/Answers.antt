@@ -1,47 +1,31 @@
-use Rattle.std.proofs.Common.{◌≡◌, ◌∙◌, ◌-◌, refl, sym, ap}
+use Rattle.std.proofs.Common.{◌≡◌, ◌∙◌, ◌-◌, ap}
 use Rattle.flat_model.specs.Image.{Program}
 use Rattle.block_finder.specs.Block.{IsBlock}
 use Rattle.event_walk.specs.Matches.{classes_of}
 use Rattle.watcher_api.specs.Acting.{ask_of, walks_of}
-use Rattle.instr_lists.specs.Delivery.{no_asks, each_hears, each_walks, StopsIn}
-use Rattle.instr_lists.proofs.Hearing.{by_err, absent_same}
-use Rattle.instr_lists.proofs.Events.{walk_more, none_walk, all_stay, has_classes, stops_at}
+use Rattle.instr_lists.specs.Delivery.{no_asks, each_walks, StopsIn}
+use Rattle.instr_lists.proofs.Hearing.{by_err}
+use Rattle.instr_lists.proofs.Events.{all_stay, stops_first}
 use Rattle.instr_lists.proofs.delivery.deliver.Goals as goal
 
-pub loop-e-init : goal.loop-e-init
-loop-e-init g c = record {
-  same = refl;
-  others = λ p one absent. ap (ask_of p) c.none-asks.ensures.none ∙ all_stay 8 (p - 1);
-  walked = λ classes has.
-      ap (λ l. walks_of l c.args.attached.now) c.none-asks.ensures.none
-      ∙ sym (none_walk classes c.args.list.now.sets (walks_of no_asks c.args.attached.now));
-}
-
-pub loop-e-preserved : goal.loop-e-preserved
-loop-e-preserved g c =
-    let kept = c.loop-e.invariant in
-    let hear = c.in_ok-hear_event.ensures in
-    record {
-      same = hear.same ∙ kept.same;
-      others = λ p one absent.
-          hear.others p one (absent_same p c.loop-e.attached c.args.attached.now kept.same absent) ∙ kept.others p one absent;
-      walked = λ classes has.
-          hear.heard classes has
-          ∙ (ap (each_hears classes c.args.list.now.sets _) (kept.walked classes has)
-          ∙ sym (walk_more classes c.args.list.now.sets c.args.raw.now c.loop-e.e-index _ (walks_of no_asks c.args.attached.now) c.loop-e-test.true));
-    }
-
-pub returns-in_err-hear_event-clause-delivered : goal.returns-in_err-hear_event-clause-delivered
-returns-in_err-hear_event-clause-delivered g c =
+pub returns-in_err-deliver_on-clause-delivered : goal.returns-in_err-deliver_on-clause-delivered
+returns-in_err-deliver_on-clause-delivered g c =
     by_err
     (λ asks. (image : Program) → IsBlock image c.args.list.now.block.pc c.args.list.now.block
-    → walks_of asks.first c.hear_event.new.attached
+    → walks_of asks.first c.deliver_on.new.attached
     ≡ each_walks (classes_of image) c.args.list.now.sets c.args.raw.now (walks_of no_asks c.args.attached.now))
     (λ _. (image : Program) → IsBlock image c.args.list.now.block.pc c.args.list.now.block
-    → StopsIn (classes_of image) c.args.list.now.sets c.args.raw.now c.args.attached.now c.hear_event.new.attached)
+    → StopsIn (classes_of image) c.args.list.now.sets c.args.raw.now c.args.attached.now c.deliver_on.new.attached)
     c.from_residual.result c.from_residual.ensures.0
     (λ why image is.
-    let has = has_classes image c.args.list.now.block is in
-    stops_at (classes_of image) c.args.list.now.sets c.args.raw.now c.loop-e.e-index _ c.args.attached.now c.loop-e.attached
-    c.hear_event.new.attached c.loop-e.asks.first c.hear_event.new.asks.first c.loop-e-test.true
-    (c.loop-e.invariant.walked (classes_of image) has) (c.in_err-hear_event.ensures.heard (classes_of image) has))
+    stops_first (classes_of image) c.args.list.now.sets c.args.raw.now c.args.attached.now c.deliver_on.new.attached
+    c.none-asks.result.first c.deliver_on.new.asks.first c.none-asks.ensures.none (c.in_err-deliver_on.ensures.delivered image is))
+
+pub returns-clause-delivered : goal.returns-clause-delivered
+returns-clause-delivered g c = λ image is.
+    c.in_ok-deliver_on.ensures.delivered image is
+    ∙ ap (λ l. each_walks (classes_of image) c.args.list.now.sets c.args.raw.now (walks_of l c.args.attached.now)) c.none-asks.ensures.none
+
+pub returns-clause-others : goal.returns-clause-others
+returns-clause-others g c = λ p one absent.
+    c.in_ok-deliver_on.ensures.others p one absent ∙ (ap (ask_of p) c.none-asks.ensures.none ∙ all_stay 8 (p - 1))

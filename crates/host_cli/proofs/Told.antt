@@ -1,0 +1,59 @@
+-- Refusals that were told, as answers.
+use Rattle.std.proofs.Common.{◌≡◌, ℕ, List, [], Option, Some, None, refl, subst, inl, inr}
+use Rattle.command_words.specs.declared.values.RunOptions.{RunOptions}
+use Rattle.command_words.specs.Commands.{CommandText, Run}
+use Rattle.code_listing.specs.declared.listings.ListingOf.{ListingOf}
+use Rattle.code_listing.specs.declared.listings.ListingOf.TheVariants.{Instructions, Blocks}
+use Rattle.call_inputs.specs.declared.refusals.Input.{Input}
+use Rattle.call_inputs.specs.declared.refusals.Input.TheVariants.{File, Script, Journal}
+use Rattle.call_inputs.specs.declared.refusals.Refusal.{Refusal}
+use Rattle.call_inputs.specs.declared.refusals.Refusal.TheVariants.{OutOfMemory}
+use Rattle.call_inputs.specs.Lines.{refusal_line}
+use Rattle.host_cli.specs.Files.{FilesAround, AreKept}
+use Rattle.host_cli.specs.Commands.{list_command}
+use Rattle.host_cli.specs.Telling.{IsTold}
+use Rattle.host_cli.specs.Refusals.{input_of, input_name, named_in}
+use Rattle.host_cli.specs.Answers.{Refuses}
+use Rattle.host_cli.specs.Sinks.{Around, WasTold, IsSilent}
+
+pub refuses : (command : Option CommandText) (name : List ℕ) (r : Refusal) (files : FilesAround) (out report : Around) (status : ℕ)
+    → name ≡ named_in command (input_of r) → IsTold name r report status → IsSilent out → AreKept files
+    → Refuses command r files out report status
+refuses command name r files out report status named (inl told) silent kept = record {
+  put = r;
+  is_it = inl refl;
+  status_is = told.0;
+  line = subst (λ (n : List ℕ). WasTold report (refusal_line n r)) named told.1;
+  silent = silent;
+  kept = kept;
+}
+refuses command name r files out report status named (inr told) silent kept = record {
+  put = OutOfMemory;
+  is_it = inr refl;
+  status_is = told.0;
+  line = no_name command told.1;
+  silent = silent;
+  kept = kept;
+}
+  where
+    no_name : (command : Option CommandText) → WasTold report (refusal_line [] OutOfMemory)
+        → WasTold report (refusal_line (named_in command None) OutOfMemory)
+    no_name None told = told
+    no_name (Some c) told = told
+
+pub run_names : (options : RunOptions) (journal : Option (List ℕ)) (file : List ℕ) (plugins : List (List ℕ)) (o : Option Input)
+    → input_name o file None [] ≡ named_in (Some (Run options None journal file plugins)) o
+run_names options journal file plugins None = refl
+run_names options journal file plugins (Some File) = refl
+run_names options journal file plugins (Some Script) = refl
+run_names options journal file plugins (Some Journal) = refl
+
+pub list_names : (what : ListingOf) (file : List ℕ) (o : Option Input) → input_name o file None [] ≡ named_in (Some (list_command what file)) o
+list_names Instructions file None = refl
+list_names Instructions file (Some File) = refl
+list_names Instructions file (Some Script) = refl
+list_names Instructions file (Some Journal) = refl
+list_names Blocks file None = refl
+list_names Blocks file (Some File) = refl
+list_names Blocks file (Some Script) = refl
+list_names Blocks file (Some Journal) = refl

@@ -1,7 +1,0 @@
-use Rattle.std.proofs.Common.{refl}
-use Rattle.top_call.specs.Ends.{unnamed}
-use Rattle.top_call.proofs.ending.end_journal.Goals as goal
-
-pub returns-in-None-clause-ends : goal.returns-in-None-clause-ends
-returns-in-None-clause-ends g c =
-    rw (c.in-None.is, c.status.ensures.status) (unnamed (record { same = refl; faultless = refl }) (record { same = refl; faultless = refl }))
