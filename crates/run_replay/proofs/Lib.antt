@@ -1,0 +1,9 @@
+pub mod Lists
+pub mod Numbers
+pub mod Judged
+pub mod Going
+pub mod Turned
+pub mod Noting
+pub mod Leaves
+pub mod GivenBack
+pub mod Putting
