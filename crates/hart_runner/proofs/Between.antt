@@ -1,8 +1,8 @@
 -- From what a runner knows between its holds to what it needs in a hold, and back.
-use Rattle.std.proofs.Common.{◌≡◌, ◌≢◌, ◌∷◌, [], ◌∙◌, ℕ, true, false, List, Option, Some, None, Result, Ok, Err}
-use Rattle.std.proofs.Common.{refl, sym, ap, subst, ne_eqb, arith, All}
+use Rattle.std.proofs.Common.{◌≡◌, ◌≢◌, ◌≤◌, ◌∷◌, [], ◌∙◌, ℕ, true, false, List, Option, Some, None, Result, Ok, Err}
+use Rattle.std.proofs.Common.{refl, sym, ap, subst, ne_eqb, arith, inl, inr, All}
 use Rattle.std.specs.Prelude.{IsSome, IfOk, MatchOption, slice_index_or}
-use Rattle.std.proofs.lemmas.Bool.{false≢true}
+use Rattle.std.proofs.lemmas.Bool.{cases_Bool, false≢true}
 use Rattle.std.proofs.lemmas.List.Elements.{All-head, All-tail}
 use Rattle.flat_model.specs.declared.plugins.Ask.{Ask}
 use Rattle.flat_model.specs.declared.plugins.SetSpec.{SetSpec}
@@ -10,6 +10,7 @@ use Rattle.flat_model.specs.declared.journals.Item.{Item}
 use Rattle.flat_model.specs.declared.refusals.NoMemory.{NoMemory}
 use Rattle.flat_model.specs.Image.{Program}
 use Rattle.flat_model.specs.Log.{party}
+use Rattle.flat_model.specs.Registry.{plugin_of}
 use Rattle.block_finder.specs.Block.{IsBlock}
 use Rattle.host_state.specs.Moving.{IsPrivateTurn}
 use Rattle.hart_runner.specs.declared.going_ahead.Ahead.{Ahead}
@@ -17,16 +18,20 @@ use Rattle.hart_runner.specs.Lists.{IsList}
 use Rattle.flat_model.specs.World.{HartState}
 use Rattle.flat_model.specs.Worlds.{hart_of}
 use Rattle.baton_gate.specs.Logs.{GoesOn}
+use Rattle.watcher_api.specs.Acting.{ask_of}
 use Rattle.watcher_api.specs.Attachment.{Attachment}
+use Rattle.run_rules.specs.Guest.{plugins}
+use Rattle.run_rules.specs.Heard.{is_live, waiting}
 use Rattle.run_rules.specs.Laws.{AreOfOthers}
 use Rattle.run_rules.specs.Legal.{Legal, is_there}
-use Rattle.run_rules.specs.Places.{IsStateLog}
+use Rattle.run_rules.specs.Places.{IsStateLog, place_of, is_with_hart}
 use Rattle.run_order.specs.InOrder.{Task, InOrder, task_run}
 use Rattle.kept_order.specs.Going.{StaysSeated}
 use Rattle.kept_order.specs.Waking.{MayWake}
 use Rattle.kept_order.proofs.Gone.{there_low}
 use Rattle.kept_order.proofs.Seats.{others_leave_runners_alone}
 use Rattle.kept_order.proofs.Wakings.{parked_harts_wake}
+use Rattle.replay_order.proofs.Before.{live_before}
 use Rattle.host_state.specs.State.{StateValue, stored_of}
 use Rattle.hart_runner.specs.declared.holding.Hold.{Hold}
 use Rattle.hart_runner.specs.declared.seats.Seat.{Seat}
@@ -60,6 +65,22 @@ wakes t h seen past ahead there parked =
     subst (MayWake t h seen) (sym ahead.begins)
     (parked_harts_wake t h ahead.more seen (there_low (task_run t) h seen there) (others_of h ahead.more ahead.later) parked)
 
+-- what the hart has noted for a plug-in that is Live is what it waited for
+still_noted : (t : Task) (h : ℕ) (seen past : List Item) (hart : HartState) (sets : List Attachment) (filters : List (ℕ × SetSpec))
+    (noted : List Ask) → Legal (task_run t) past → IsStateLog (task_run t) past → GoesOn (λ i. party i ≢ h) seen past
+    → IsSeated t h seen hart sets filters noted → (p : ℕ) → 1 ≤ p → p ≤ 8
+    → is_live (plugin_of (plugins (task_run t) past) p).state ≡ true → ask_of p noted ≡ waiting (task_run t) p h seen
+still_noted t h seen past hart sets filters noted legal state ahead seated p one most live =
+    let run = task_run t in
+    elim (cases_Bool (is_with_hart (place_of run p h seen))) [
+      | inr off ↦ seated.unasked p one most off
+      | inl with ↦
+          seated.asks p one most
+          (live_before run p h ahead.more seen one (there_low run h seen seated.there) (others_of h ahead.more ahead.later)
+          (subst (Legal run) ahead.begins legal) (subst (IsStateLog run) ahead.begins state) with
+          (subst (λ (xs : List Item). is_live (plugin_of (plugins run xs) p).state ≡ true) ahead.begins live))
+    ]
+
 pub back_so : (s : StateValue) (h : ℕ) (seen : List Item) (hart : HartState) (sets : List Attachment) (filters : List (ℕ × SetSpec))
     (noted : List Ask) → InOrder s.task (stored_of s) → GoesOn (λ i. party i ≢ h) seen s.past
     → IsSeated s.task h seen hart sets filters noted → IsBack s.task h s.past hart sets filters noted
@@ -68,10 +89,12 @@ back_so s h seen hart sets filters noted order ahead seated =
     let same = stays t h seen s.past order.legal order.state_log ahead seated.there in
     record {
       there = same.there ∙ seated.there;
-      hart = λ awake. seated.order.hart ∙ sym (same.hart (ap (λ (x : HartState). x.parked) (sym seated.order.hart) ∙ awake));
-      sets = seated.order.attached ∙ sym same.sets;
+      hart = λ awake. seated.hart ∙ sym (same.hart (ap (λ (x : HartState). x.parked) (sym seated.hart) ∙ awake));
+      sets = seated.attached ∙ sym same.sets;
       specs = seated.specs ∙ sym same.specs;
-      asks = λ p one most live. seated.order.asks p one most ∙ sym (same.asks p one live);
+      asks = λ p one most live.
+          still_noted t h seen s.past hart sets filters noted order.legal order.state_log ahead seated p one most live
+          ∙ sym (same.asks p one live);
     }
 
 pub asleep_so : (s : StateValue) (h : ℕ) (seen : List Item) (hart : HartState) (sets : List Attachment) (filters : List (ℕ × SetSpec))
@@ -79,10 +102,10 @@ pub asleep_so : (s : StateValue) (h : ℕ) (seen : List Item) (hart : HartState)
     → IsSeated s.task h seen hart sets filters noted → hart.parked ≡ true → IsAsleep s.task h s.past hart
 asleep_so s h seen hart sets filters noted ahead seated parked =
     let t = s.task in
-    let wake = wakes t h seen s.past ahead seated.there (ap (λ (x : HartState). x.parked) (sym seated.order.hart) ∙ parked) in
+    let wake = wakes t h seen s.past ahead seated.there (ap (λ (x : HartState). x.parked) (sym seated.hart) ∙ parked) in
     record {
       parked = parked;
-      asleep = λ none. wake.asleep none ∙ sym seated.order.hart;
+      asleep = λ none. wake.asleep none ∙ sym seated.hart;
       woken = wake.woken;
     }
 
@@ -132,11 +155,6 @@ module _ {W : Type 0} where
         below = sits.seated.below;
       }
 
-  pub is_plain : (place : Option (Seat W)) (t : Task) (h : ℕ) (seen : List Item)
-      → MatchOption place ⊥ (Sits t h seen) → t.plan.script ≡ []
-  is_plain None t h seen sits = absurd sits
-  is_plain (Some seat) t h seen sits = sits.plain
-
   -- what the hart added is its party's
   pub adds_own : (place : Option (Seat W)) (t : Task) (h : ℕ) (seen : List Item) (old new : StateValue)
       → MatchOption place ⊥ (Sits t h seen) → MatchOption place ⊥ (λ seat. IsHold seat.no old new)
@@ -164,7 +182,6 @@ module _ {W : Type 0} where
     image = ap (λ x. x.value) keeps.image ∙ sits.image;
     limit = keeps.limit ∙ sits.limit;
     kept = keeps.kept ∙ sits.kept;
-    plain = sits.plain;
   }
 
   still_there : (t : Task) (h : ℕ) (now : List Item) (seat : Seat W) → Sits t h now seat → is_there (task_run t) h now ≡ true
@@ -192,7 +209,7 @@ module _ {W : Type 0} where
             sits.number
             (λ taken is. (still_there t h now new again, subst (λ (k : ℕ). GoesOn (IsGotBy k) taken now) again.number is.0.1)) gone;
         waits = λ e. ap (λ (k : ℕ). (hart_of t.machine t.mode seen k).parked) (sym sits.number)
-            ∙ ap (λ (x : HartState). x.parked) (sym sits.seated.order.hart) ∙ gone.what.0.2;
+            ∙ ap (λ (x : HartState). x.parked) (sym sits.seated.hart) ∙ gone.what.0.2;
         placed = again;
       }
   still_done holds.Leaves place seat t h seen now sits gone = record {

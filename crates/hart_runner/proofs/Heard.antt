@@ -66,8 +66,9 @@ heard_seated t h past hart sets filters told after asked turned heard =
     let before = turned.before in
     let first = sets_for is_with_hart run h before in
     let low : h < t.machine.harts = there_low run h before turned.there in
-    let legal : Legal run (steps h n before) = subst (Legal run) turned.turn turned.legal in
-    let state : IsStateLog run (steps h n before) = subst (IsStateLog run) turned.turn turned.state_log in
+    let legal : Legal run (steps h n before) = turned.legal in
+    let state : IsStateLog run (steps h n before) = turned.state_log in
+    let lets = turned.lets_be in
     let told_by = (steps_of t.machine h n (hart_of t.machine t.mode before h) (world t.machine t.mode before).shared).events in
     let Is : List Attachment × List (ℕ × SetSpec) × List Event → Type 0 = λ y. AreHeard t.machine.image y.0 y.1 y.2 after asked in
     let did : AreHeard t.machine.image first (specs_for run h before) told_by after asked =
@@ -75,20 +76,17 @@ heard_seated t h past hart sets filters told after asked turned heard =
     let are : HaveHeard run h (steps h n before) after asked =
     turns_are_heard t h n before after asked low turned.some legal state turned.quiet did.acts did.walks in
     let asks = asks_wait run h n before after asked low turned.some legal state are did.others in
-    subst (λ (xs : List Item). IsSeated t h xs hart after filters asked) (sym turned.turn)
-    (record {
-      there = same_there run h n before ∙ turned.there;
-      order = record {
-        hart = turned.is ∙ ap (λ (xs : List Item). hart_of t.machine t.mode xs h) turned.turn;
-        attached = are.sets;
-        asks = asks;
-        closing = tt;
-      };
-      specs = turned.specs ∙ sym (turns_move_no_sets run h n before);
+    record {
+      there = lets.there ∙ same_there run h n before ∙ turned.there;
+      hart = turned.is;
+      attached = are.sets ∙ sym lets.sets;
+      specs = turned.specs ∙ sym (turns_move_no_sets run h n before) ∙ sym lets.specs;
+      asks = λ p one most live. asks p one most ∙ sym (lets.asks p one live);
+      unasked = λ p one most off. asks p one most ∙ sym (lets.unasked p one (sym (lets.places p one) ∙ off));
       begins = turned.begins;
       below = turned.below;
       quiet = λ parked. absurd (false≢true (sym turned.awake ∙ parked));
-    })
+    }
 
 pub some_task : (o : Option Task) → IsSome o → (t : Task) × (o ≡ Some t)
 some_task None some = absurd (false≢true some)
@@ -136,7 +134,6 @@ module _ {W : Type 0} where
         image = ap (λ s. s.image.value) heard.rest ∙ image;
         limit = ap (λ s. s.limit) heard.rest ∙ keeps.limit ∙ sits.limit;
         kept = ap (λ s. s.raw.kept) heard.rest ∙ keeps.kept ∙ sits.kept;
-        plain = sits.plain;
       } in
       record {
         gone = regone h old.no seen now (λ taken. IsPart holds.Turned t taken now pieces old (Some new)) (IsTurned Went t h now) sits.number
@@ -162,7 +159,6 @@ module _ {W : Type 0} where
     image = ap (λ s. s.image.value) same ∙ sits.image;
     limit = ap (λ s. s.limit) same ∙ sits.limit;
     kept = kept ∙ sits.kept;
-    plain = sits.plain;
   }
 
   pub goes_ahead : (seat mid : Seat W) (ahead : going.Ahead) → Ahead seat mid → seat.hart.parked ≡ false → seat.hart.ending ≡ None

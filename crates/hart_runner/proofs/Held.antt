@@ -3,6 +3,7 @@ use Rattle.std.proofs.Common.{◌≡◌, ◌&&◌, ◌||◌, ◌+◌, ◌<◌, �
 use Rattle.std.proofs.Common.{Option, Some, None, refl, sym, ap, subst, arith, inl, inr, length}
 use Rattle.std.specs.Prelude.{ℤ, is_some, IsSome, replicate, All}
 use Rattle.std.specs.List.{list_all, range_with_len}
+use Rattle.std.specs.List.Sorted.{IsNonDecreasingBy}
 use Rattle.std.specs.Cmp.Derive.{both_true}
 use Rattle.std.proofs.lemmas.Bool.{cases_Bool, false≢true}
 use Rattle.flat_model.specs.declared.events.Event.{Event}
@@ -23,10 +24,10 @@ use Rattle.watcher_api.specs.Acting.{ask_of}
 use Rattle.watcher_api.specs.Attachment.{Attachment}
 use Rattle.run_rules.specs.Guest.{Run, plugins}
 use Rattle.run_rules.specs.Heard.{is_live, waiting}
-use Rattle.run_rules.specs.Due.{start_orders, wanted}
+use Rattle.run_rules.specs.Due.{start_orders, next_line, wanted}
 use Rattle.run_rules.specs.Laws.{MayTurn}
 use Rattle.run_rules.specs.Legal.{Legal, is_there, owes_any, asks_nothing, is_idle, is_finished, may_leave}
-use Rattle.run_rules.specs.Places.{is_with_hart}
+use Rattle.run_rules.specs.Places.{IsStateLog, is_with_hart}
 use Rattle.run_rules.proofs.Turns.{rest_true}
 use Rattle.run_order.specs.Sets.{sets_for}
 use Rattle.run_order.specs.InOrder.{Task, InOrder, task_run}
@@ -35,16 +36,18 @@ use Rattle.kept_order.proofs.Asked.{waits_dead}
 use Rattle.kept_order.proofs.Gone.{there_low}
 use Rattle.kept_order.proofs.Ranges.{all_at}
 use Rattle.kept_order.proofs.Rows.{turns_begin}
+use Rattle.kept_order.proofs.Unplanned.{wants_none}
+use Rattle.script_order.specs.Letting.{LetsBe}
+use Rattle.host_state.specs.Scripting.{HasTurned}
 use Rattle.host_state.specs.State.{StateValue, IsCaughtUp, stored_of}
 use Rattle.hart_runner.specs.declared.holding.Hold.TheVariants.{Turned}
 use Rattle.hart_runner.specs.declared.tapes.Piece.{Piece}
-use Rattle.hart_runner.specs.Stretches.{GoesOnBy, IsCommitted, IsGoing, IsPiece, LieAt, events_of}
+use Rattle.hart_runner.specs.Stretches.{GoesOnBy, HasPlaced, IsCommitted, IsGoing, IsPiece, LieAt, events_of}
 use Rattle.hart_runner.proofs.GoingOn.{whole_turn, hears_all, all_heard}
 use Rattle.hart_runner.specs.Holds.{IsHold, MayLeave, IsHeld}
 use Rattle.hart_runner.specs.Seats.{IsSeated, HasEntered, Own}
 use Rattle.hart_runner.proofs.Entered.{quiet_noted, live_within}
 use Rattle.hart_runner.proofs.Logs.{never_less}
-use Rattle.hart_runner.proofs.Wants.{still_wants_none, same_starts}
 
 -- A hart that has entered.
 
@@ -79,13 +82,11 @@ pub seated : (h : ℕ) (seen : List Item) (s : StateValue) (sets : List Attachme
     → IsSeated s.task h s.past hart sets filters noted
 seated h seen s sets filters hart noted entered is begins below none = record {
   there = entered.there;
-  order = record {
-    hart = is;
-    attached = entered.sets;
-    asks = quiet_at (task_run s.task) h s.past noted entered.asks_nothing none;
-    closing = tt;
-  };
+  hart = is;
+  attached = entered.sets;
   specs = entered.specs;
+  asks = λ p one most live. quiet_at (task_run s.task) h s.past noted entered.asks_nothing none p one most;
+  unasked = λ p one most off. quiet_at (task_run s.task) h s.past noted entered.asks_nothing none p one most;
   begins = begins;
   below = below;
   quiet = λ parked. none;
@@ -158,95 +159,124 @@ turn_begins h seen s sets filters entered order =
     turns_begin (task_run s.task) h s.past order.legal entered.there entered.owes_none entered.asks_nothing
     (ap (λ (o : Option Item). not (is_some o)) entered.caught_up)
 
-pub turned : (h n : ℕ) (seen : List Item) (old new : StateValue) (sets : List Attachment) (filters : List (ℕ × SetSpec)) (noted : List Ask)
+pub turned : (h n : ℕ) (seen : List Item) (old mid new : StateValue) (sets : List Attachment) (filters : List (ℕ × SetSpec)) (noted : List Ask)
     (before after : HartState) (told first : List Event) (pc : ℕ) (pieces : List Piece)
-    → HasEntered h seen old sets filters → IsCommitted h n old new before after told
+    → HasEntered h seen old sets filters → IsCommitted h n old mid before after told → HasPlaced h mid new
     → before ≡ hart_of old.task.machine old.task.mode old.past h → (0 < length sets → told ≡ first ++ events_of pieces)
     → pc % 4 ≡ 0 → LieAt old.task.machine.image pc first → All (IsPiece old.task.machine.image) pieces
     → IsHeld Turned h seen new after sets filters noted first pc pieces
-turned h n seen old new sets filters noted before after told first pc pieces entered is same heard aligned lies each = (
-  record {
-    told = told;
-    turn = record {
-      before = old.past;
-      n = n;
-      turn = is.made;
-      some = is.some;
-      legal = is.legal;
-      state_log = is.state_log;
-      there = ap (λ (t : Task). is_there (task_run t) h old.past) is.task ∙ entered.there;
-      quiet = ap (λ (t : Task). asks_nothing (task_run t) h old.past) is.task ∙ entered.asks_nothing;
-      attached = entered.sets ∙ ap (λ (t : Task). sets_for is_with_hart (task_run t) h old.past) (sym is.task);
-      specs = entered.specs ∙ ap (λ (t : Task). specs_for (task_run t) h old.past) (sym is.task);
-      events = is.events
-          ∙ ap (λ (x : HartState). (steps_of old.task.machine h n x (world old.task.machine old.task.mode old.past).shared).events) same
-          ∙ ap (λ (t : Task). (steps_of t.machine h n (hart_of t.machine t.mode old.past h) (world t.machine t.mode old.past).shared).events)
-          (sym is.task);
-      is = is.is;
-      awake = is.awake;
-      begins = is.leaves;
-      below = λ goes. subst (λ (t : Task). after.steps < t.machine.limit) (sym is.task) (is.within_limit goes);
-    };
-    heard = heard;
-    aligned = aligned;
-    lies = subst (λ (t : Task). LieAt t.machine.image pc first) (sym is.task) lies;
-    each = subst (λ (t : Task). All (IsPiece t.machine.image) pieces) (sym is.task) each;
-  },
-  omega (
-    arith,
-    never_less (λ i. party i ≡ h) seen old.past entered.own,
-    more_written h n old.past,
-    ap (λ (past : List Item). length (journaled past)) is.made,
-    is.some,
-  ),
-)
+turned h n seen old mid new sets filters noted before after told first pc pieces entered is placed same heard aligned lies each =
+    let task : new.task ≡ old.task = placed.task ∙ is.task in
+    let low : h < mid.task.machine.harts =
+    subst (λ (t : Task). h < t.machine.harts) (sym is.task) (there_low (task_run old.task) h old.past entered.there) in
+    let lets : LetsBe mid.task h mid.past new.past = placed.lets_be h low in (
+      record {
+        told = told;
+        turn = record {
+          before = old.past;
+          n = n;
+          some = is.some;
+          legal = subst (λ (y : Task × List Item). Legal (task_run y.0) y.1) (λ i. (sym placed.task i, is.made i)) is.legal;
+          state_log = subst (λ (y : Task × List Item). IsStateLog (task_run y.0) y.1) (λ i. (sym placed.task i, is.made i)) is.state_log;
+          lets_be = subst (λ (y : Task × List Item). LetsBe y.0 h y.1 new.past) (λ i. (sym placed.task i, is.made i)) lets;
+          there = ap (λ (t : Task). is_there (task_run t) h old.past) task ∙ entered.there;
+          quiet = ap (λ (t : Task). asks_nothing (task_run t) h old.past) task ∙ entered.asks_nothing;
+          attached = entered.sets ∙ ap (λ (t : Task). sets_for is_with_hart (task_run t) h old.past) (sym task);
+          specs = entered.specs ∙ ap (λ (t : Task). specs_for (task_run t) h old.past) (sym task);
+          events = is.events
+              ∙ ap (λ (x : HartState). (steps_of old.task.machine h n x (world old.task.machine old.task.mode old.past).shared).events) same
+              ∙ ap (λ (t : Task). (steps_of t.machine h n (hart_of t.machine t.mode old.past h) (world t.machine t.mode old.past).shared).events)
+              (sym task);
+          is = is.is ∙ ap (λ (w : World). w.harts h) (sym lets.world)
+              ∙ ap (λ (t : Task). hart_of t.machine t.mode new.past h) (sym placed.task);
+          awake = is.awake;
+          begins = is.leaves;
+          below = λ goes. subst (λ (t : Task). after.steps < t.machine.limit) (sym task) (is.within_limit goes);
+        };
+        heard = heard;
+        aligned = aligned;
+        lies = subst (λ (t : Task). LieAt t.machine.image pc first) (sym task) lies;
+        each = subst (λ (t : Task). All (IsPiece t.machine.image) pieces) (sym task) each;
+      },
+      omega (
+        arith,
+        never_less (λ i. party i ≡ h) seen old.past entered.own,
+        never_less (λ i. party i ≡ h) mid.past new.past placed.own,
+        more_written h n old.past,
+        ap (λ (past : List Item). length (journaled past)) is.made,
+        is.some,
+      ),
+    )
 
-pub turned_hold : (h n : ℕ) (first old new : StateValue) (sets : List Attachment) (filters : List (ℕ × SetSpec))
+pub turned_hold : (h n : ℕ) (first old mid new : StateValue) (sets : List Attachment) (filters : List (ℕ × SetSpec))
     (before after : HartState) (told : List Event)
-    → HasEntered h first.past old sets filters → IsCommitted h n old new before after told → old.task ≡ first.task
-    → first.task.plan.script ≡ [] → IsHold h first new
-turned_hold h n first old new sets filters before after told entered is task plain = record {
-  own = goes_on (λ i. party i ≡ h) (λ i. party i ≡ h) (λ i. party i ≡ h) first.past old.past new.past entered.own
-      (goes_same (λ i. party i ≡ h) old.past (steps h n old.past) new.past (own_steps h n old.past) (sym is.made)) (λ i own. own) (λ i
-      own. own);
-  few = omega (arith, entered.total, more_steps h n old.past, ap total_steps is.made, is.most);
-  caught_up = inr (ap (λ (t : Task). wanted (task_run t) new.past) is.task
-      ∙ subst (λ (past : List Item). wanted (task_run old.task) past ≡ None) (sym is.made)
-      (still_wants_none (task_run old.task) old.past (steps h n old.past) (ap (λ (t : Task). t.plan.script) task ∙ plain)
-      (same_starts h n old.past) entered.caught_up));
-  task = is.task ∙ task;
+    → HasEntered h first.past old sets filters → IsCommitted h n old mid before after told → HasPlaced h mid new
+    → old.task ≡ first.task → IsHold h first new
+turned_hold h n first old mid new sets filters before after told entered is placed task = record {
+  own = goes_on (λ i. party i ≡ h) (λ i. party i ≡ h) (λ i. party i ≡ h) first.past mid.past new.past
+      (goes_on (λ i. party i ≡ h) (λ i. party i ≡ h) (λ i. party i ≡ h) first.past old.past mid.past entered.own
+      (goes_same (λ i. party i ≡ h) old.past (steps h n old.past) mid.past (own_steps h n old.past) (sym is.made)) (λ i own. own)
+      (λ i own. own))
+      placed.own (λ i own. own) (λ i own. own);
+  few = omega (arith, entered.total, more_steps h n old.past, ap total_steps is.made, is.most, placed.total);
+  caught_up = placed.caught_up;
+  task = placed.task ∙ is.task ∙ task;
 }
 
 -- the same of a Turn that went on with further blocks
-pub turned_on : (h k n r : ℕ) (seen : List Item) (old mid new : StateValue) (sets : List Attachment) (filters : List (ℕ × SetSpec))
+pub turned_on : (h k n r : ℕ) (seen : List Item) (old mid made new : StateValue) (sets : List Attachment) (filters : List (ℕ × SetSpec))
     (noted : List Ask) (x y z : HartState) (first : List Event) (pc : ℕ) (has_sets : Bool) (p q : List Piece) → k ≡ h
     → HasEntered h seen old sets filters → x ≡ hart_of old.task.machine old.task.mode old.past h
     → IsCommitted h n old mid x y first → pc % 4 ≡ 0 → LieAt old.task.machine.image pc first
-    → GoesOnBy mid.task k r mid.past new.past y z has_sets p q → new.task ≡ mid.task → InOrder new.task (stored_of new)
-    → IsGoing new k z → n + r ≤ 512 → p ≡ [] → (0 < length sets → has_sets ≡ true)
+    → GoesOnBy mid.task k r mid.past made.past y z has_sets p q → made.task ≡ mid.task → InOrder made.task (stored_of made)
+    → IsGoing made k z → n + r ≤ 512 → p ≡ [] → (0 < length sets → has_sets ≡ true) → HasPlaced k made new
     → IsHeld Turned h seen new z sets filters noted first pc q
-turned_on h k n r seen old mid new sets filters noted x y z first pc has_sets p q same entered is one aligned lies gone task order going
-    most none some =
-    let gone' : GoesOnBy mid.task h r mid.past new.past y z has_sets p q =
-    subst (λ (i : ℕ). GoesOnBy mid.task i r mid.past new.past y z has_sets p q) same gone in
-    let going' : IsGoing new h z = subst (λ (i : ℕ). IsGoing new i z) same going in
-    turned h (n + r) seen old new sets filters noted x z (first ++ gone'.told) first pc q entered
-    (whole_turn h n r old mid new x y z first has_sets p q is one gone' task order going' most) is
-    (λ has. hears_all mid.task h r mid.past new.past y z first has_sets p q gone' none (some has)) aligned lies
+turned_on h k n r seen old mid made new sets filters noted x y z first pc has_sets p q same entered is one aligned lies gone task order
+    going most none some placed =
+    let gone' : GoesOnBy mid.task h r mid.past made.past y z has_sets p q =
+    subst (λ (i : ℕ). GoesOnBy mid.task i r mid.past made.past y z has_sets p q) same gone in
+    let going' : IsGoing made h z = subst (λ (i : ℕ). IsGoing made i z) same going in
+    turned h (n + r) seen old made new sets filters noted x z (first ++ gone'.told) first pc q entered
+    (whole_turn h n r old mid made x y z first has_sets p q is one gone' task order going' most)
+    (subst (λ (i : ℕ). HasPlaced i made new) same placed) is
+    (λ has. hears_all mid.task h r mid.past made.past y z first has_sets p q gone' none (some has)) aligned lies
     (subst (λ (t : Task). All (IsPiece t.machine.image) q) one.task
-    (all_heard mid.task h r mid.past new.past y z has_sets p q gone' none))
+    (all_heard mid.task h r mid.past made.past y z has_sets p q gone' none))
 
-pub turned_hold_on : (h k n r : ℕ) (first old mid new : StateValue) (sets : List Attachment) (filters : List (ℕ × SetSpec))
+-- it is one behind which lines may be placed
+pub may_place : (h k n r : ℕ) (seen : List Item) (old mid made : StateValue) (sets : List Attachment) (filters : List (ℕ × SetSpec))
+    (x y z : HartState) (first : List Event) (has_sets : Bool) (p q : List Piece) → k ≡ h → HasEntered h seen old sets filters
+    → x ≡ hart_of old.task.machine old.task.mode old.past h → IsCommitted h n old mid x y first
+    → GoesOnBy mid.task k r mid.past made.past y z has_sets p q → made.task ≡ mid.task → InOrder made.task (stored_of made)
+    → IsGoing made k z → n + r ≤ 512 → HasTurned (task_run made.task) k made.past
+may_place h k n r seen old mid made sets filters x y z first has_sets p q same entered is one gone task order going most =
+    let gone' : GoesOnBy mid.task h r mid.past made.past y z has_sets p q =
+    subst (λ (i : ℕ). GoesOnBy mid.task i r mid.past made.past y z has_sets p q) same gone in
+    let going' : IsGoing made h z = subst (λ (i : ℕ). IsGoing made i z) same going in
+    let whole = whole_turn h n r old mid made x y z first has_sets p q is one gone' task order going' most in
+    subst (λ (i : ℕ). HasTurned (task_run made.task) i made.past) (sym same)
+    (record {
+      before = old.past;
+      made = n + r;
+      is = whole.made;
+      some = whole.some;
+      most = whole.most;
+      caught_up = ap (λ (t : Task). wanted (task_run t) old.past) (task ∙ one.task) ∙ entered.caught_up;
+    })
+
+pub turned_hold_on : (h k n r : ℕ) (first old mid made new : StateValue) (sets : List Attachment) (filters : List (ℕ × SetSpec))
     (x y z : HartState) (told : List Event) (has_sets : Bool) (p q : List Piece) → k ≡ h → HasEntered h first.past old sets filters
     → x ≡ hart_of old.task.machine old.task.mode old.past h → IsCommitted h n old mid x y told
-    → GoesOnBy mid.task k r mid.past new.past y z has_sets p q → new.task ≡ mid.task → InOrder new.task (stored_of new)
-    → IsGoing new k z → n + r ≤ 512 → old.task ≡ first.task → first.task.plan.script ≡ [] → IsHold h first new
-turned_hold_on h k n r first old mid new sets filters x y z told has_sets p q same entered is one gone task order going most begun plain =
-    let gone' : GoesOnBy mid.task h r mid.past new.past y z has_sets p q =
-    subst (λ (i : ℕ). GoesOnBy mid.task i r mid.past new.past y z has_sets p q) same gone in
-    let going' : IsGoing new h z = subst (λ (i : ℕ). IsGoing new i z) same going in
-    turned_hold h (n + r) first old new sets filters x z (told ++ gone'.told) entered
-    (whole_turn h n r old mid new x y z told has_sets p q is one gone' task order going' most) begun plain
+    → GoesOnBy mid.task k r mid.past made.past y z has_sets p q → made.task ≡ mid.task → InOrder made.task (stored_of made)
+    → IsGoing made k z → n + r ≤ 512 → old.task ≡ first.task → HasPlaced k made new → IsHold h first new
+turned_hold_on h k n r first old mid made new sets filters x y z told has_sets p q same entered is one gone task order going most begun
+    placed =
+    let gone' : GoesOnBy mid.task h r mid.past made.past y z has_sets p q =
+    subst (λ (i : ℕ). GoesOnBy mid.task i r mid.past made.past y z has_sets p q) same gone in
+    let going' : IsGoing made h z = subst (λ (i : ℕ). IsGoing made i z) same going in
+    turned_hold h (n + r) first old made new sets filters x z (told ++ gone'.told) entered
+    (whole_turn h n r old mid made x y z told has_sets p q is one gone' task order going' most)
+    (subst (λ (i : ℕ). HasPlaced i made new) same placed) begun
 
 -- A hart that found no memory behind its entry.
 
@@ -346,10 +376,6 @@ none_wanted : (o : Option Item) → not (is_some o) ≡ true → o ≡ None
 none_wanted None is = refl
 none_wanted (Some item) is = absurd (false≢true is)
 
-left_starts : (h : ℕ) (past : List Item) → start_orders (Left h ∷ past) ≡ start_orders past
-unfolding start_orders
-left_starts h past = refl
-
 leaves_caught_up : (run : Run) (h : ℕ) (past : List Item) → may_leave run h past ≡ true → wanted run past ≡ None
 leaves_caught_up run h past may =
     let rest = rest_true (is_there run h past) _ may in
@@ -358,12 +384,12 @@ leaves_caught_up run h past may =
     none_wanted (wanted run past) (rest_true (asks_nothing run h past) _ rest'')
 
 pub left_caught_up : (h : ℕ) (old new : StateValue) (hart : HartState) (sets : List Attachment) → MayLeave h old hart sets
-    → old.task.plan.script ≡ [] → new.past ≡ Left h ∷ old.past → new.task ≡ old.task → IsCaughtUp new
-unfolding Legal
-left_caught_up h old new hart sets may plain past task =
+    → IsNonDecreasingBy (λ t. t.when) old.task.plan.script → new.past ≡ Left h ∷ old.past → new.task ≡ old.task → IsCaughtUp new
+unfolding Legal start_orders next_line
+left_caught_up h old new hart sets may rising past task =
     inr (ap (λ (t : Task). wanted (task_run t) new.past) task
     ∙ ap (λ (xs : List Item). wanted (task_run old.task) xs) past
-    ∙ still_wants_none (task_run old.task) old.past (Left h ∷ old.past) plain (left_starts h old.past)
+    ∙ wants_none (task_run old.task) old.past (Left h ∷ old.past) rising refl refl
     (leaves_caught_up (task_run old.task) h old.past may.legal.1))
 
 pub left_hold : (h k : ℕ) (old mid new : StateValue) → IsHold h old mid → k ≡ h → new.past ≡ Left k ∷ mid.past → IsCaughtUp new

@@ -1,5 +1,5 @@
 pub mod Logs
-pub mod Wants
+pub mod Placed
 pub mod GivingBacks
 pub mod Entered
 pub mod GoingOn

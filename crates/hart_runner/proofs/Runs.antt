@@ -18,6 +18,13 @@ pub same_again : {I F : Type 0} (a b c : View I F) → b ≡ record a { seen = b
     → c ≡ record a { seen = c.seen }
 same_again {I} {F} a b c first next = next ∙ ap (λ (v : View I F). record v { seen = c.seen }) first
 
+-- a hart that goes on hasn't left
+pub went_on : (turned : Turned) → turned ≡ Went → turned ≡ Left → ⊥
+went_on turned is left = let both : Went ≡ Left = sym is ∙ left in absurd cc
+
+pub waited_on : (turned : Turned) → turned ≡ Waited → turned ≡ Left → ⊥
+waited_on turned is left = let both : Waited ≡ Left = sym is ∙ left in absurd cc
+
 module _ {W : Type 0} where
   -- what a turn tells
   abbrev pub Done : Option Task → Result Turned NoMemory → ℕ → List Item → List Item → Option (Seat W) → Type 0

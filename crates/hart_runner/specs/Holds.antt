@@ -17,6 +17,7 @@ use Rattle.run_rules.specs.Places.{IsStateLog, is_with_hart}
 use Rattle.run_order.specs.Sets.{sets_for}
 use Rattle.run_order.specs.InOrder.{Task, task_run}
 use Rattle.kept_order.specs.Hearing.{specs_for}
+use Rattle.script_order.specs.Letting.{LetsBe}
 use Rattle.host_state.specs.State.{StateValue, IsCaughtUp}
 use Rattle.host_state.specs.Taking.{IsGotBy}
 use Rattle.hart_runner.specs.declared.holding.Hold.{Hold}
@@ -39,15 +40,15 @@ pub record IsHold (h : ℕ) (old new : StateValue) : Type 0 where
   pub caught_up : IsCaughtUp new
   pub task : new.task ≡ old.task
 
--- a Turn stands last in the log; the hart's boxes haven't heard its events yet
+-- a Turn stands last in the log, but for lines of the script that were placed behind it; the hart's boxes haven't heard its events yet
 pub record HasTurned (t : Task) (h : ℕ) (past : List Item) (hart : HartState) (sets : List Attachment) (filters : List (ℕ × SetSpec))
     (told : List Event) : Type 0 where
   pub before : List Item
   pub n : ℕ
-  pub turn : past ≡ steps h n before
   pub some : 0 < n
-  pub legal : Legal (task_run t) past
-  pub state_log : IsStateLog (task_run t) past
+  pub legal : Legal (task_run t) (steps h n before)
+  pub state_log : IsStateLog (task_run t) (steps h n before)
+  pub lets_be : LetsBe t h (steps h n before) past
   pub there : is_there (task_run t) h before ≡ true
   pub quiet : asks_nothing (task_run t) h before ≡ true
   pub attached : sets ≡ sets_for is_with_hart (task_run t) h before

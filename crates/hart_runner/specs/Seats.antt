@@ -16,9 +16,9 @@ use Rattle.run_rules.specs.Guest.{plugins}
 use Rattle.run_rules.specs.Heard.{is_live, waiting}
 use Rattle.run_rules.specs.Due.{wanted}
 use Rattle.run_rules.specs.Legal.{is_there, owes_any, asks_nothing}
-use Rattle.run_rules.specs.Places.{is_with_hart, takes_all}
+use Rattle.run_rules.specs.Places.{place_of, is_with_hart, takes_all}
 use Rattle.run_order.specs.Sets.{sets_for}
-use Rattle.run_order.specs.InOrder.{Task, RunnerInOrder, task_run}
+use Rattle.run_order.specs.InOrder.{Task, task_run}
 use Rattle.kept_order.specs.Hearing.{specs_for}
 use Rattle.host_state.specs.State.{StateValue}
 
@@ -27,8 +27,13 @@ use Rattle.host_state.specs.State.{StateValue}
 pub record IsSeated (t : Task) (no : ℕ) (seen : List Item) (h : HartState) (sets : List Attachment) (filters : List (ℕ × SetSpec))
     (noted : List Ask) : Type 0 where
   pub there : is_there (task_run t) no seen ≡ true
-  pub order : RunnerInOrder t no seen (record { hart = h; attached = sets; asks = noted; closing = None })
+  pub hart : h ≡ hart_of t.machine t.mode seen no
+  pub attached : sets ≡ sets_for is_with_hart (task_run t) no seen
   pub specs : filters ≡ specs_for (task_run t) no seen
+  pub asks : (plugin : ℕ) → 1 ≤ plugin → plugin ≤ 8 → is_live (plugin_of (plugins (task_run t) seen) plugin).state ≡ true
+      → ask_of plugin noted ≡ waiting (task_run t) plugin no seen
+  pub unasked : (plugin : ℕ) → 1 ≤ plugin → plugin ≤ 8 → is_with_hart (place_of (task_run t) plugin no seen) ≡ false
+      → ask_of plugin noted ≡ waiting (task_run t) plugin no seen
   pub begins : h.ending ≡ None → h.since ≡ 0
   pub below : h.ending ≡ None → h.steps < t.machine.limit
   pub quiet : h.parked ≡ true → noted ≡ replicate 8 Stay

@@ -3,7 +3,7 @@ use Rattle.std.specs.Prelude.{◌≡◌, ◌<◌, ◌≤◌, ◌%◌, ◌++◌, 
 use Rattle.flat_model.specs.declared.events.Event.{Event}
 use Rattle.flat_model.specs.declared.journals.Item.{Item}
 use Rattle.flat_model.specs.Image.{Program}
-use Rattle.flat_model.specs.Log.{steps}
+use Rattle.flat_model.specs.Log.{steps, total_steps}
 use Rattle.flat_model.specs.Step.{steps_of}
 use Rattle.flat_model.specs.World.{HartState}
 use Rattle.flat_model.specs.Worlds.{world, hart_of}
@@ -12,8 +12,10 @@ use Rattle.instr_lists.specs.Sorts.{LiesIn}
 use Rattle.run_rules.specs.Legal.{Legal}
 use Rattle.run_rules.specs.Places.{IsStateLog}
 use Rattle.run_order.specs.InOrder.{Task, task_run}
-use Rattle.host_state.specs.State.{StateValue}
+use Rattle.host_state.specs.Scripting.{LetsAllBe}
+use Rattle.host_state.specs.State.{StateValue, IsCaughtUp}
 use Rattle.hart_runner.specs.declared.tapes.Piece.{Piece}
+use Rattle.hart_runner.specs.Seats.{Own}
 
 -- a hart in the state's log: it has ended, or it runs and is at the start of a block
 pub record IsGoing (s : StateValue) (h : ℕ) (hart : HartState) : Type 0 where
@@ -61,3 +63,11 @@ pub record IsCommitted (h n : ℕ) (old new : StateValue) (before after : HartSt
   pub awake : after.parked ≡ false
   pub leaves : after.ending ≡ None → after.since ≡ 0
   pub within_limit : after.ending ≡ None → after.steps < old.task.machine.limit
+
+-- lines of the script were placed behind a Turn of hart h
+pub record HasPlaced (h : ℕ) (old new : StateValue) : Type 0 where
+  pub own : Own h old.past new.past
+  pub total : total_steps new.past ≡ total_steps old.past
+  pub lets_be : LetsAllBe old.task old.past new.past
+  pub caught_up : IsCaughtUp new
+  pub task : new.task ≡ old.task

@@ -56,7 +56,6 @@ module _ {W : Type 0} where
     pub image : seat.image.value ≡ t.machine.image
     pub limit : seat.limit ≡ t.machine.limit
     pub kept : seat.raw.kept ≡ true
-    pub plain : t.plan.script ≡ []
 
   -- the lists that a cache keeps are of the seat's sets
   abbrev pub HasLists : List KeptList → Seat W → Type 0

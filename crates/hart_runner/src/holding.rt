@@ -11,6 +11,7 @@ ghost use Rattle.hart_runner.specs.Seats.{IsBack};
 ghost use Rattle.hart_runner.specs.Holds.{IsAsleep, IsHold, IsStill, IsHeld};
 
 use crate::entering::{enter, enter_parked};
+use crate::falling_due::{next_moment, place_due};
 use crate::going_ahead::Ahead;
 use crate::seats::Seat;
 use crate::stretching::{commit_first, go_on};
@@ -35,8 +36,8 @@ pub(crate) enum Hold {
 }
 
 /// The part of a hart that runs and has gone ahead: it records the Turn of its block, makes the rest of the block with what the
-/// harts share, and goes on with its next blocks. Where the group has ended meanwhile, its steps are given up, and it stays as it
-/// was.
+/// harts share, and goes on with its next blocks. Lines of the script that fall due in the Turn are placed behind it. Where the
+/// group has ended meanwhile, its steps are given up, and it stays as it was.
 pub(crate) fn hold_running<W: Watcher, C: Closer<Held<W>>>(
     state: &mut HostState<W, C>,
     seat: &mut Seat<W>,
@@ -46,7 +47,6 @@ pub(crate) fn hold_running<W: Watcher, C: Closer<Held<W>>>(
 ) -> Result<Hold, NoMemory>
     requires back { IsBack state.old.task seat.old.no state.old.past seat.old.hart seat.old.attached seat.old.specs seat.old.asks.first }
     requires caught_up { IsCaughtUp state.old }
-    requires plain { state.old.task.plan.script ≡ [] }
     requires awake { seat.old.hart.parked ≡ false }
     requires running { seat.old.hart.ending ≡ None }
     requires begins { seat.old.hart.since ≡ 0 }
@@ -80,6 +80,7 @@ pub(crate) fn hold_running<W: Watcher, C: Closer<Held<W>>>(
     // Each state is in order.
     let _ = state.task();
     if state.group().is_none() {
+        let until = next_moment(state);
         let made = commit_first(state, seat, ahead, blocks)?;
         let has_sets = seat.attached.len() > 0;
         go_on(
@@ -90,11 +91,13 @@ pub(crate) fn hold_running<W: Watcher, C: Closer<Held<W>>>(
             &seat.image,
             has_sets,
             made,
+            until,
             blocks,
             tape,
         );
         // Each state is in order.
         let _ = state.task();
+        place_due(state, seat.alloc, seat.no)?;
         return Ok(Hold::Turned);
     }
     if gave_back {

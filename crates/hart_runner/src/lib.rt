@@ -7,8 +7,10 @@ pub use tapes::{Piece, Tape};
 
 mod delivering;
 mod entering;
+mod falling_due;
 mod going_ahead;
 mod holding;
+mod making_way;
 mod parts;
 mod runners;
 mod seats;

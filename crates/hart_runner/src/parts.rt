@@ -20,11 +20,12 @@ use watcher_api::{Closer, Held, Watcher};
 /// The hart leaves: it is kept in the state, and its sets are parked there.
 fn leave<W: Watcher, C: Closer<Held<W>>>(state: &mut HostState<W, C>, seat: Seat<W>)
     requires may { MayLeave seat.no state.old seat.hart seat.attached }
-    requires plain { state.old.task.plan.script ≡ [] }
     ensures left { state.new.past ≡ Left seat.no ∷ state.old.past }
     ensures caught_up { IsCaughtUp state.new }
     ensures task { state.new.task ≡ state.old.task }
 {
+    // The moments of the script's lines never fall, so none is due behind a Leave.
+    let _ = state.task().script();
     let Seat {
         no,
         hart,
@@ -60,7 +61,6 @@ pub(crate) fn take_still_part<W: Watcher, C: Closer<Held<W>>>(
 ) -> Result<Hold, NoMemory>
     requires comes { MatchOption place.old ⊥ (ComesStill state.old) }
     requires caught_up { IsCaughtUp state.old }
-    requires plain { state.old.task.plan.script ≡ [] }
     ensures part { MatchOption place.old ⊥ (λ seat. IfOk result
         (λ hold. IsStillPart hold state.new.task state.old.past state.new.past seat place.new)) }
     ensures hold { MatchOption place.old ⊥ (λ seat. IsHold seat.no state.old state.new) }
@@ -90,7 +90,6 @@ pub(crate) fn take_running_part<W: Watcher, C: Closer<Held<W>>>(
     requires serves { MatchOption place.old ⊥ (λ seat. MayServe blocks.old seat.image.value) }
     requires empty { tape.old.pieces.items ≡ [] }
     requires caught_up { IsCaughtUp state.old }
-    requires plain { state.old.task.plan.script ≡ [] }
     ensures part { MatchOption place.old ⊥
         (λ seat. IfOk result (λ hold. IsPart hold state.new.task state.old.past state.new.past tape.new.pieces.items seat
         place.new)) }

@@ -4,6 +4,7 @@ use flat_model::Image;
 use guest_memory::Near;
 use host_state::Specs;
 use rv_exec::{Hart, RawLog};
+use std::alloc::Global;
 use std::sync::Arc;
 use watcher_api::{Asks, Attached, Watcher};
 
@@ -27,4 +28,6 @@ pub struct Seat<W: Watcher> {
     pub near: Near,
     /// The events of its last Turn.
     pub raw: RawLog,
+    /// For the orders of script lines that fall due in its Turns.
+    pub alloc: Global,
 }

@@ -11,6 +11,7 @@ ghost use Rattle.run_rules.specs.Places.{takes_all};
 ghost use Rattle.run_order.specs.InOrder.{task_run};
 ghost use Rattle.hart_runner.specs.Stretches.{IsGoing, GoesOnBy, IsCommitted, LieAt};
 
+use crate::falling_due::has_come;
 use crate::going_ahead::Ahead;
 use crate::seats::Seat;
 use crate::tapes::Tape;
@@ -124,8 +125,8 @@ fn next_block<W: Watcher, C: Closer<Held<W>>>(
     n
 }
 
-/// Makes the next blocks of hart `no` behind `made` steps of its Turn, one after the other, as long as there is one to make, and
-/// answers how many steps they are.
+/// Makes the next blocks of hart `no` behind `made` steps of its Turn, one after the other, as long as there is one to make and the
+/// moment `until` hasn't come, and answers how many steps they are.
 pub(crate) fn go_on<W: Watcher, C: Closer<Held<W>>>(
     state: &mut HostState<W, C>,
     no: u8,
@@ -134,6 +135,7 @@ pub(crate) fn go_on<W: Watcher, C: Closer<Held<W>>>(
     image: &Image,
     has_sets: bool,
     made: u32,
+    until: Option<u64>,
     blocks: &BlockCache,
     tape: &mut Tape,
 ) -> u32
@@ -152,6 +154,9 @@ pub(crate) fn go_on<W: Watcher, C: Closer<Held<W>>>(
 {
     let mut more = 0;
     for _ in 0..BLOCK_WORDS {
+        if has_come(state, until) {
+            return more;
+        }
         let n = next_block(
             state,
             no,

@@ -12,6 +12,7 @@ ghost use Rattle.instr_lists.specs.declared.kept_lists.KeptList.{KeptList};
 use crate::delivering::hear_turn;
 use crate::going_ahead::{Ahead, go_ahead_from};
 use crate::holding::Hold;
+use crate::making_way::{IDLE_PAUSES, make_way};
 use crate::parts::{take_running_part, take_still_part};
 use crate::runners::{Runner, Turned};
 use crate::seats::Seat;
@@ -255,9 +256,9 @@ fn turn_awake<W: Watcher, C: Closer<Held<W>>, R: Wait>(
 impl<W: Watcher, C: Closer<Held<W>>> Runner<W, C> {
     /// One turn of the hart: one hold of the shared state, and the calls of its boxes behind it. In the hold it records its asks
     /// and its Backs and takes the sets that arrived. A hart that runs then records a Turn of one block or of several, of at most 512
-    /// steps: it goes on with the next block while the cache keeps it and there is room for its events. One that has ended leaves,
-    /// and a parked one comes to its start where it has one, leaves, or waits. Where it finds no memory, or another hart found none,
-    /// the runner has no seat any more.
+    /// steps: it goes on with the next block while the cache keeps it, there is room for its events, and no line of the script has
+    /// fallen due; lines that have are placed behind the Turn. One that has ended leaves, and a parked one comes to its start where
+    /// it has one, leaves, or waits. Where it finds no memory, or another hart found none, the runner has no seat any more.
     pub fn turn<R: Wait>(
         &mut self,
         rt: &R,
@@ -316,8 +317,10 @@ impl<W: Watcher, C: Closer<Held<W>>> Runner<W, C> {
     {
         for _ in rt.forever() {
             let turned = self.turn(rt, gate)?;
-            if let Turned::Left = turned {
-                return Ok(());
+            match turned {
+                Turned::Left => return Ok(()),
+                Turned::Went => make_way(gate, 0),
+                Turned::Waited => make_way(gate, IDLE_PAUSES),
             }
         }
         unreachable!()

@@ -39,19 +39,17 @@ no_steps image h harts (Some start) = refl
 
 module _ {W : Type 0} where
   pub sits_first : (t : Task) (h : ℕ) (past : List Item) (seat : Seat W) → IsFirstSeat t.machine t.mode h seat → All IsPlanned past
-      → IsWithinLimits t.machine → t.plan.script ≡ [] → h < t.machine.harts → Sits t h past seat
-  sits_first t h past seat is all limits plain low =
+      → IsWithinLimits t.machine → h < t.machine.harts → Sits t h past seat
+  sits_first t h past seat is all limits low =
       let m = t.machine in
       let start = opening_start m.image t.mode h in
       let steps : seat.hart.steps ≡ 0 = ap (λ (x : HartState). x.steps) is.hart_is ∙ no_steps m.image h m.harts start in
       let seated : IsSeated t h past seat.hart seat.attached seat.specs seat.asks.first = record {
         there = all_there (task_run t) h past all low;
-        order = record {
-          hart = is.hart_is ∙ opens_there t h past all;
-          attached = is.no_sets ∙ no_sets (task_run t) h past all;
-          asks = λ p one most. quiet_noted seat.asks.first p is.no_asks ∙ sym (nobody_waits (task_run t) p h past all);
-          closing = tt;
-        };
+        hart = is.hart_is ∙ opens_there t h past all;
+        attached = is.no_sets ∙ no_sets (task_run t) h past all;
+        asks = λ p one most live. quiet_noted seat.asks.first p is.no_asks ∙ sym (nobody_waits (task_run t) p h past all);
+        unasked = λ p one most off. quiet_noted seat.asks.first p is.no_asks ∙ sym (nobody_waits (task_run t) p h past all);
         specs = is.no_specs ∙ no_specs (task_run t) h past all;
         begins = λ _. ap (λ (x : HartState). x.since) is.hart_is ∙ since_none m.image h m.harts start;
         below = λ _. omega (arith, steps, limits.some_step);
@@ -63,7 +61,6 @@ module _ {W : Type 0} where
         image = is.image_is;
         limit = is.limit_is;
         kept = is.stores;
-        plain = plain;
       }
 
   placed : (place : Option (Seat W)) (P Q : Seat W → Type 0) → ((seat : Seat W) → P seat → Q seat) → MatchOption place ⊥ P → MatchOption place ⊥ Q
@@ -78,8 +75,8 @@ module _ {W : Type 0} where
   pub ready_first : {S : Type 0} (gate : Gate S Item Task) (pass : Pass S Item Task) (seat : Option (Seat W)) (blocks : Option Program)
       (lists : List KeptList) (t : Task) (count : ℕ) (past : List Item) → IsNewPass gate pass pass.party count past t
       → MatchOption seat ⊥ (IsFirstSeat t.machine t.mode pass.party) → blocks ≡ None → lists ≡ [] → All IsPlanned past
-      → IsWithinLimits t.machine → t.plan.script ≡ [] → pass.party < t.machine.harts → IsReady gate pass seat blocks lists
-  ready_first gate pass seat blocks lists t count past new first none empty all limits plain low =
+      → IsWithinLimits t.machine → pass.party < t.machine.harts → IsReady gate pass seat blocks lists
+  ready_first gate pass seat blocks lists t count past new first none empty all limits low =
       let same : (u : Task) → carries pass ≡ Some u → t ≡ u = λ u e. same_Some t u (sym new.frame_is ∙ e) in
       let all_seen : All IsPlanned (seen pass) = subst (λ (xs : List Item). All IsPlanned xs) (sym new.seen_is) all in
       record {
@@ -87,7 +84,7 @@ module _ {W : Type 0} where
         free = new.free;
         sits = λ u e. subst (λ (x : Task). MatchOption seat ⊥ (Sits x pass.party (seen pass))) (same u e)
             (placed seat (IsFirstSeat t.machine t.mode pass.party) (Sits t pass.party (seen pass))
-            (λ s is. sits_first t pass.party (seen pass) s is all_seen limits plain low) first);
+            (λ s is. sits_first t pass.party (seen pass) s is all_seen limits low) first);
         serves = λ u e. subst (λ (x : Option Program). MayServe x u.machine.image) (sym none) tt;
         kept = placed seat (IsFirstSeat t.machine t.mode pass.party) (HasLists lists) (λ s is. no_lists lists s empty) first;
       }

@@ -3,7 +3,7 @@ use Rattle.std.proofs.Common.{◌≡◌, ◌∷◌, ◌∙◌, ◌&&◌, ◌<◌
 use Rattle.std.specs.Prelude.{map, if◌then◌else◌, replicate, slice_index_or, All}
 use Rattle.std.specs.List.{filter_map, cons_option}
 use Rattle.std.proofs.lemmas.Bool.{lt-ltb}
-use Rattle.std.proofs.lemmas.List.Elements.{All-nil, All-cons, All-head, All-tail}
+use Rattle.std.proofs.lemmas.List.Elements.{All-nil, All-cons, All-head, All-tail, All-append, All-weaker}
 use Rattle.flat_model.specs.declared.plugins.Ask.{Ask}
 use Rattle.flat_model.specs.declared.plugins.Ask.TheVariants.{Stay}
 use Rattle.flat_model.specs.declared.plugins.SetSpec.{SetSpec}
@@ -14,6 +14,7 @@ use Rattle.flat_model.specs.declared.journals.Order.{Order}
 use Rattle.flat_model.specs.declared.journals.Order.TheVariants.{Install, Register, Reset, Uninstall}
 use Rattle.flat_model.specs.declared.journals.Origin.{Origin}
 use Rattle.flat_model.specs.declared.journals.Origin.TheVariants.{Start, Script, Asked, Control}
+use Rattle.flat_model.specs.declared.limits.TheConstants.{NO_PARTY}
 use Rattle.flat_model.specs.Log.{log, log_from}
 use Rattle.flat_model.specs.Registry.{Plugins, registry, after_order, is_installed, plugin_of, is_hart, has_left}
 use Rattle.flat_model.specs.World.{Machine, World}
@@ -26,6 +27,8 @@ use Rattle.run_rules.specs.Places.{Place, Waiting, registers, place_of, is_with_
 use Rattle.run_order.specs.Sets.{sets_for, placed_at, attachment_of}
 use Rattle.kept_order.specs.Hearing.{specs_for, spec_at}
 use Rattle.kept_order.proofs.Gone.{as_many}
+use Rattle.baton_gate.specs.Logs.{GoesOn}
+use Rattle.host_state.specs.Scripting.{IsLineOf}
 use Rattle.host_core.specs.Runs.{IsOfPlan, IsPlanned, IsGivenInside, IsUncontrolled}
 
 -- the installs of a plan are such a log
@@ -34,8 +37,28 @@ from_installs past [] all = all
 from_installs past (spec ∷ specs) all =
     from_installs (Ordered Start (Install spec) ∷ past) specs (All-cons IsPlanned (Ordered Start (Install spec)) past tt all)
 
-pub installs_are_planned : (past : List Item) (specs : List SetSpec) → past ≡ log (map start_order specs) → All IsPlanned past
+installs_are_planned : (past : List Item) (specs : List SetSpec) → past ≡ log (map start_order specs) → All IsPlanned past
 installs_are_planned past specs is = subst (λ (xs : List Item). All IsPlanned xs) (sym is) (from_installs [] specs (All-nil IsPlanned))
+
+line_planned : (h : ℕ) (i : Item) → IsLineOf h i → IsPlanned i
+line_planned h (Step hart) is = absurd is
+line_planned h (Ordered Start order) is = tt
+line_planned h (Ordered (Script line party) order) is = tt
+line_planned h (Ordered (Asked hart plugin) order) is = absurd is
+line_planned h (Ordered (Control party) order) is = absurd is
+line_planned h (GaveBack hart plugin) is = absurd is
+line_planned h (Left hart) is = absurd is
+line_planned h (Told party plugin) is = absurd is
+line_planned h (Got hart plugin) is = absurd is
+line_planned h (Took party plugin) is = absurd is
+
+-- and with the lines of its script behind them
+pub opening_is_planned : (past : List Item) (specs : List SetSpec) → GoesOn (IsLineOf NO_PARTY) (log (map start_order specs)) past
+    → All IsPlanned past
+opening_is_planned past specs goes =
+    subst (λ (xs : List Item). All IsPlanned xs) (sym goes.begins)
+    (All-append IsPlanned goes.more (log (map start_order specs))
+    (All-weaker (IsLineOf NO_PARTY) IsPlanned (line_planned NO_PARTY) goes.more goes.later) (installs_are_planned _ specs refl))
 
 inside : (origin : Origin) → IsOfPlan origin → IsGivenInside origin
 inside Start is = tt

@@ -1,6 +1,6 @@
 //! Whole runs on threads.
 
-ghost use Rattle.std.specs.Prelude.{◌≡◌, ◌≤◌, [], All, Ok, IfOk, map, vec_len};
+ghost use Rattle.std.specs.Prelude.{◌≡◌, ◌≤◌, All, Ok, IfOk, map, vec_len};
 ghost use Rattle.flat_model.specs.declared.limits.TheConstants.{PLUGINS_MOST, RACK_BOXES};
 ghost use Rattle.plug_registry.specs.Installs.{AreAllowed};
 ghost use Rattle.host_state.specs.State.{IsWithinLimits};
@@ -80,7 +80,6 @@ pub fn run<W: Watcher + Send, C: Closer<Held<W>> + Send, R: Threads + Wait + Syn
 ) -> Result<HostState<W, C>, NoMemory>
     requires limits { IsWithinLimits (record { image = image.value; harts = harts; limit = limit }) }
     requires allowed { AreAllowed harts plan.installs }
-    requires lines { plan.script ≡ [] }
     requires boxes { RACK_BOXES ≤ vec_len rack.watchers }
     requires closers { PLUGINS_MOST ≤ vec_len rack.closers }
     ensures run { IfOk result (IsRunOf

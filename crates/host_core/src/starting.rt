@@ -2,10 +2,12 @@
 
 ghost use Rattle.std.specs.Prelude.{◌≡◌, ◌≤◌, ◌+◌, [], None, All, IfOk, MatchOption, map, vec_len};
 ghost use Rattle.std.specs.List.{range_with_len};
-ghost use Rattle.flat_model.specs.declared.limits.TheConstants.{PLUGINS_MOST, RACK_BOXES};
+ghost use Rattle.flat_model.specs.declared.limits.TheConstants.{NO_PARTY, PLUGINS_MOST, RACK_BOXES};
 ghost use Rattle.flat_model.specs.Log.{log};
+ghost use Rattle.baton_gate.specs.Logs.{GoesOn};
 ghost use Rattle.baton_gate.specs.Passes.{IsNewPass, seen};
 ghost use Rattle.plug_registry.specs.Installs.{start_order, AreAllowed};
+ghost use Rattle.host_state.specs.Scripting.{IsLineOf};
 ghost use Rattle.host_state.specs.State.{IsWithinLimits};
 ghost use Rattle.host_core.specs.Stages.{IsFirstSeat, IsReady};
 
@@ -53,6 +55,7 @@ fn seat<W: Watcher>(
         asks: Asks::none(),
         near: Near::default(),
         raw: RawLog::new(alloc)?,
+        alloc,
     })
 }
 
@@ -116,10 +119,9 @@ pub fn start<W: Watcher, C: Closer<Held<W>>, R: Wait>(
 ) -> Result<Started<W, C>, NoMemory>
     requires limits { IsWithinLimits (record { image = image.value; harts = harts; limit = limit }) }
     requires allowed { AreAllowed harts plan.installs }
-    requires lines { plan.script ≡ [] }
     requires boxes { RACK_BOXES ≤ vec_len rack.watchers }
     requires closers { PLUGINS_MOST ≤ vec_len rack.closers }
-    ensures log { IfOk result (λ s. seen s.own ≡ log (map start_order plan.installs)) }
+    ensures log { IfOk result (λ s. GoesOn (IsLineOf NO_PARTY) (log (map start_order plan.installs)) (seen s.own)) }
     ensures own { IfOk result (λ s. IsNewPass s.gate s.own harts (harts + 1) (seen s.own)
         (record { machine = record { image = image.value; harts = harts; limit = limit }; mode = mode; plan = plan })) }
     ensures passes { IfOk result (λ s. All (λ r. IsNewPass s.gate r.pass r.pass.party (harts + 1) (seen s.own)

@@ -149,7 +149,6 @@ still_live false live is = is
 
 -- what holds of the log behind it
 pub record IsBehind (s : StateValue) (h plugin : ℕ) (past : List Item) : Type 0 where
-  pub asked : GoesOn (IsAskedBy h) s.past past
   pub unmoved : IsUnmoved s.task h s.past past
   pub quieted : IsQuieted s.task h plugin s.past past
   pub none : wanted (task_run s.task) past ≡ None
@@ -164,7 +163,6 @@ behind s now h plugin by past order sound view least asked none rising given ite
     let m = moves_nothing s h plugin by sound may in
     let is : past ≡ asked_item h plugin by ∷ s.past = items ∙ ap (λ (order : Order). Ordered (Asked h plugin) order ∷ s.past) given in
     subst (IsBehind s h plugin) (sym is) (record {
-      asked = goes_once (IsAskedBy h) s.past (asked_item h plugin by) refl;
       unmoved = record { there = m.there; sets = m.sets; specs = m.specs; world = m.world; as_many = m.as_many };
       quieted = record {
         live = λ p one live. still_live (withdraws (withdrawal plugin by) p) _ (sym (m.live p one) ∙ live);
@@ -188,6 +186,10 @@ pub record AsksSoFar (old now : StateValue) (h place : ℕ) (noted : List Ask) :
   pub asks : (p : ℕ) → place < p → is_live (plugin_of (plugins (task_run now.task) now.past) p).state ≡ true
       → ask_of p noted ≡ waiting (task_run now.task) p h now.past
   pub room : old.journal.spare ≤ now.journal.spare + place
+
+-- an ask was recorded
+pub one_asked : (h plugin : ℕ) (by : How) (past now : List Item) → now ≡ asked_item h plugin by ∷ past → GoesOn (IsAskedBy h) past now
+one_asked h plugin by past now is = subst (GoesOn (IsAskedBy h) past) (sym is) (goes_once (IsAskedBy h) past (asked_item h plugin by) refl)
 
 -- what one of them did
 pub record IsOneOn (old new : StateValue) (h plugin : ℕ) : Type 0 where

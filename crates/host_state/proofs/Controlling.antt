@@ -1,4 +1,4 @@
--- The state as a controller's order stands in it.
+-- The state as an order stands in it.
 use Rattle.std.proofs.Common.{◌≡◌, ◌≤◌, ◌<◌, ◌+◌, ◌-◌, ◌*◌, ◌∷◌, ◌∙◌, ℕ, true, false, not, List, Option, Some, None, length}
 use Rattle.std.proofs.Common.{refl, sym, ap, subst, arith, map, replicate}
 use Rattle.std.specs.Prelude.{is_some, ◌&&◌, nat_lt, nat_le, slice_set, Vec, vec_len}
@@ -15,11 +15,13 @@ use Rattle.flat_model.specs.declared.journals.Item.{Item}
 use Rattle.flat_model.specs.declared.journals.Item.TheVariants.{Ordered}
 use Rattle.flat_model.specs.declared.journals.Order.{Order}
 use Rattle.flat_model.specs.declared.journals.Order.TheVariants.{Install, Register, Reset, Uninstall}
+use Rattle.flat_model.specs.declared.journals.Origin.{Origin}
 use Rattle.flat_model.specs.declared.journals.Origin.TheVariants.{Control}
 use Rattle.flat_model.specs.Log.{log}
 use Rattle.flat_model.specs.Registry.{Plugins, refusal, after_order, is_hart}
 use Rattle.plug_registry.specs.State.{RegistryState}
 use Rattle.run_journal.specs.Journal.{JournalState}
+use Rattle.run_rules.specs.Guest.{plugins}
 use Rattle.run_rules.specs.Due.{wanted}
 use Rattle.run_rules.specs.Legal.{Legal}
 use Rattle.run_order.specs.InOrder.{Task, InOrder, task_run}
@@ -39,32 +41,31 @@ use Rattle.host_state.proofs.AllowedSets.{IsAttachable, install_attachable, regi
 use Rattle.host_state.proofs.Shelved.{waiting_long}
 use Rattle.host_state.specs.State.{StateValue, IsSound, stored_of}
 
--- the plan wants nothing, the party is no hart, and the registry allows the order
-pub record MayControl (s : StateValue) (party : ℕ) (order : Order) : Type 0 where
-  pub none : wanted (task_run s.task) s.past ≡ None
-  pub outside : is_hart s.registry.table party ≡ false
+-- an order may stand, and the registry allows it
+pub record MayControl (s : StateValue) (origin : Origin) (order : Order) : Type 0 where
+  pub legal : Legal (task_run s.task) (Ordered origin order ∷ s.past)
   pub allowed : refusal s.registry.table order ≡ None
 
 -- seen from the value of the state's parts
-pub may_control : (was s : StateValue) (party : ℕ) (order : Order) → s ≡ was → wanted (task_run was.task) was.past ≡ None
-    → is_hart was.registry.table party ≡ false → refusal was.registry.table order ≡ None → MayControl s party order
-may_control was s party order is none outside allowed =
-    subst (λ (v : StateValue). MayControl v party order) (sym is) (record { none = none; outside = outside; allowed = allowed })
+pub may_control : (was s : StateValue) (origin : Origin) (order : Order) → s ≡ was
+    → Legal (task_run was.task) (Ordered origin order ∷ was.past) → refusal was.registry.table order ≡ None → MayControl s origin order
+may_control was s origin order is legal allowed =
+    subst (λ (v : StateValue). MayControl v origin order) (sym is) (record { legal = legal; allowed = allowed })
 
-pub may_stand : (s : StateValue) (party : ℕ) (order : Order) → IsSound s → MayControl s party order
-    → Legal (task_run s.task) (Ordered (Control party) order ∷ s.past)
+-- a controller's order that the registry allows, where the plan wants nothing and the party is no hart
+pub control_stands : (was s : StateValue) (party : ℕ) (order : Order) → s ≡ was → IsSound s → wanted (task_run was.task) was.past ≡ None
+    → is_hart was.registry.table party ≡ false → refusal was.registry.table order ≡ None
+    → Legal (task_run was.task) (Ordered (Control party) order ∷ was.past)
 unfolding Legal
-may_stand s party order sound may = (
-  sound.order.legal,
-  record {
-    allowed = ap (λ (r : Plugins). not (is_some (refusal r order))) (sym sound.order.plugins)
-        ∙ ap (λ o. not (is_some o)) may.allowed;
-    given = (
-      ap (λ o. not (is_some o)) may.none,
-      ap (λ (r : Plugins). is_hart r party) (sym sound.order.plugins) ∙ may.outside,
-    );
-  },
-)
+control_stands was s party order is sound none outside free =
+    let same : was.registry.table ≡ plugins (task_run was.task) was.past =
+    subst (λ (v : StateValue). v.registry.table ≡ plugins (task_run v.task) v.past) is sound.order.plugins in (
+      subst (λ (v : StateValue). Legal (task_run v.task) v.past) is sound.order.legal,
+      record {
+        allowed = ap (λ (r : Plugins). not (is_some (refusal r order))) (sym same) ∙ ap (λ o. not (is_some o)) free;
+        given = (ap (λ o. not (is_some o)) none, ap (λ (r : Plugins). is_hart r party) (sym same) ∙ outside);
+      },
+    )
 
 -- Want of memory: room was taken, and nothing else changed.
 
@@ -122,15 +123,15 @@ same_boxes (Register plugin spec) r is = absurd is
 same_boxes (Reset plugin) r is = refl
 same_boxes (Uninstall plugin) r is = refl
 
-pub withdrawn_sound : (s : StateValue) (party : ℕ) (order : Order) (past : List Item) (journal : JournalState) (registry : RegistryState)
-    → IsSound s → MayControl s party order → IsWithdrawal order → past ≡ Ordered (Control party) order ∷ s.past
-    → log journal.entries ≡ Ordered (Control party) order ∷ log s.journal.entries
+pub withdrawn_sound : (s : StateValue) (origin : Origin) (order : Order) (past : List Item) (journal : JournalState) (registry : RegistryState)
+    → IsSound s → MayControl s origin order → IsWithdrawal order → past ≡ Ordered origin order ∷ s.past
+    → log journal.entries ≡ Ordered origin order ∷ log s.journal.entries
     → registry.table ≡ after_order order s.registry.table
     → IsSound (record s { past = past; journal = journal; registry = registry })
-withdrawn_sound s party order past journal registry sound may is items entries table =
+withdrawn_sound s origin order past journal registry sound may is items entries table =
     let now : StateValue = record s { past = past; journal = journal; registry = registry } in
-    let kept = withdrawals_keep_order s.task (Control party) order (stored_of s) (stored_of now) is sound.order
-    (may_stand s party order sound may) (record {
+    let kept = withdrawals_keep_order s.task origin order (stored_of s) (stored_of now) is sound.order
+    may.legal (record {
       past = items;
       journal = entries;
       shared = refl;
@@ -152,7 +153,7 @@ withdrawn_sound s party order past journal registry sound may is items entries t
       boxes = omega (arith, boxes, sound.boxes);
       closers = omega (arith, long, sound.closers);
       rooms = subst (λ (xs : List Item). HasRooms (task_run s.task) xs s.rooms) (sym items)
-          (withdrawn_rooms (task_run s.task) (Control party) order s.past s.rooms is sound.rooms);
+          (withdrawn_rooms (task_run s.task) origin order s.past s.rooms is sound.rooms);
       failed = sound.failed;
     }
 
@@ -199,11 +200,11 @@ can_register was s plugin spec is sound free =
       boxes = omega (arith, may.boxes, taken_by s spec sound, sound.boxes);
     }
 
-pub registered_sound : (s : StateValue) (party plugin : ℕ) (spec : SetSpec) (past : List Item) (journal : JournalState)
+pub registered_sound : (s : StateValue) (origin : Origin) (plugin : ℕ) (spec : SetSpec) (past : List Item) (journal : JournalState)
     (registry : RegistryState) (waiting : List (List (Option Attachment))) (arriving : List (List (Option SetSpec)))
     (rooms : List Room) (given : Room) (boxes spare : ℕ)
-    → IsSound s → MayControl s party (Register plugin spec) → past ≡ Ordered (Control party) (Register plugin spec) ∷ s.past
-    → log journal.entries ≡ Ordered (Control party) (Register plugin spec) ∷ log s.journal.entries
+    → IsSound s → MayControl s origin (Register plugin spec) → past ≡ Ordered origin (Register plugin spec) ∷ s.past
+    → log journal.entries ≡ Ordered origin (Register plugin spec) ∷ log s.journal.entries
     → registry.table ≡ after_order (Register plugin spec) s.registry.table
     → waiting ≡ slice_set s.waiting (plugin - 1) (replicate s.task.machine.harts (Some (opening plugin spec)))
     → arriving ≡ slice_set s.arriving (plugin - 1) (replicate s.task.machine.harts (Some spec))
@@ -219,7 +220,7 @@ pub registered_sound : (s : StateValue) (party plugin : ℕ) (spec : SetSpec) (p
       boxes = boxes;
       spare_closers = spare;
     })
-registered_sound s party plugin spec past journal registry waiting arriving rooms given boxes spare sound may items entries table waits
+registered_sound s origin plugin spec past journal registry waiting arriving rooms given boxes spare sound may items entries table waits
     arrives renewed fits left same_closers =
     let now : StateValue = record s {
       past = past;
@@ -233,8 +234,8 @@ registered_sound s party plugin spec past journal registry waiting arriving room
     } in
     let can = can_register s s plugin spec refl sound may.allowed in
     let run = task_run s.task in
-    let kept = registrations_keep_order s.task (Control party) plugin spec (stored_of s) (stored_of now) sound.order
-    (may_stand s party (Register plugin spec) sound may) (record {
+    let kept = registrations_keep_order s.task origin plugin spec (stored_of s) (stored_of now) sound.order
+    may.legal (record {
       past = items;
       journal = entries;
       shared = refl;
@@ -259,8 +260,8 @@ registered_sound s party plugin spec past journal registry waiting arriving room
       boxes = omega (arith, fewer, taken_by s spec sound, left, sound.boxes);
       closers = omega (arith, long, same_closers, sound.closers);
       rooms = subst (λ (xs : List Item). HasRooms run xs rooms) (sym items)
-          (subst (HasRooms run (Ordered (Control party) (Register plugin spec) ∷ s.past)) (sym renewed)
-          (register_rooms run (Control party) plugin spec s.past s.rooms given can.one can.room fits sound.rooms));
+          (subst (HasRooms run (Ordered origin (Register plugin spec) ∷ s.past)) (sym renewed)
+          (register_rooms run origin plugin spec s.past s.rooms given can.one can.room fits sound.rooms));
       failed = sound.failed;
     }
 

@@ -24,6 +24,7 @@ pub mod WholeBlocks
 pub mod Finishing
 pub mod KeptClosers
 pub mod Controlling
+pub mod ScriptLines
 pub mod KeptSets
 pub mod KeptSums
 pub mod KeptNotices

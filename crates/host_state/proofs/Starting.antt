@@ -1,10 +1,10 @@
 -- The state before any item, and once the plan's installs stand.
 use Rattle.std.proofs.Common.{◌≡◌, ◌≤◌, ◌<◌, ◌+◌, ◌-◌, ◌*◌, ◌∙◌, ◌∷◌, ◌++◌, ℕ, false, [], List, length, map, take, get_or, replicate}
-use Rattle.std.proofs.Common.{Option, Some, None, refl, sym, ap, subst, arith, inr}
+use Rattle.std.proofs.Common.{Option, Some, None, refl, sym, ap, subst, arith}
 use Rattle.std.specs.Prelude.{slice_get, option_map}
 use Rattle.std.specs.Option.{option_and_then}
 use Rattle.std.proofs.lemmas.List.{length-replicate, length-take-le, map_more, map-append, length_push, take_all}
-use Rattle.std.proofs.lemmas.Option.{slice_get_read, slice_get_past}
+use Rattle.std.proofs.lemmas.Option.{slice_get_read}
 use Rattle.flat_model.specs.declared.plugins.SetSpec.{SetSpec}
 use Rattle.flat_model.specs.declared.journals.Entry.{Entry}
 use Rattle.flat_model.specs.declared.journals.Item.{Item}
@@ -23,7 +23,7 @@ use Rattle.rv_exec.specs.Sharing.{ServicesState, AreOpening, shared_of, IsMemory
 use Rattle.run_order.specs.InOrder.{Task, InOrder, task_run}
 use Rattle.kept_order.specs.Opening.{opening_state}
 use Rattle.kept_order.specs.Arriving.{arrivals}
-use Rattle.kept_order.proofs.Openings.{opens_in_order, installs_keep_order, next_installs_stand, nothing_is_wanted}
+use Rattle.kept_order.proofs.Openings.{opens_in_order, installs_keep_order, next_installs_stand}
 use Rattle.kept_order.proofs.Arrivals.{installs_arrive}
 use Rattle.kept_order.proofs.Gone.{as_many}
 use Rattle.plug_registry.specs.Installs.{start_order, after_installs, refusal_at}
@@ -36,7 +36,7 @@ use Rattle.host_state.specs.Rooms.{HasRooms, AddsRoom}
 use Rattle.host_state.proofs.RoomKeeping.{no_rooms, install_rooms}
 use Rattle.host_state.specs.Starting.{HasStarted}
 use Rattle.host_state.proofs.AllowedSets.{IsAttachable, install_attachable}
-use Rattle.host_state.specs.State.{StateValue, stored_of, IsWithinLimits, IsSound, IsCaughtUp}
+use Rattle.host_state.specs.State.{StateValue, stored_of, IsWithinLimits, IsSound}
 
 -- The state before any item.
 
@@ -280,13 +280,9 @@ started_more whole old new i spec view next task past short =
     } in
     subst (λ (s : StateValue). HasStarted s.task (i + 1) new) view started
 
--- once all stand, a plan without a script wants nothing more
-pub all_started : (t : Task) (n : ℕ) (s : StateValue) → HasStarted t n s → length t.plan.installs ≤ n → t.plan.script ≡ [] → IsCaughtUp s
-all_started t n s started all empty =
-    let installs = t.plan.installs in
-    let count : start_orders s.past ≡ length installs =
-    ap start_orders started.past ∙ start_orders_of (take n installs) ∙ ap length (take_all n installs all) in
-    let none : slice_get s.task.plan.installs (start_orders s.past) ≡ None =
-    ap (λ (x : Task). slice_get x.plan.installs (start_orders s.past)) started.task ∙ ap (slice_get installs) count
-    ∙ slice_get_past installs (length installs) (omega arith) in
-    inr (nothing_is_wanted (task_run s.task) s.past (ap (λ (x : Task). x.plan.script) started.task ∙ empty) none)
+-- once all stand
+pub all_installed : (t : Task) (n : ℕ) (s : StateValue) → HasStarted t n s → length t.plan.installs ≤ n
+    → s.past ≡ log (map start_order s.task.plan.installs)
+all_installed t n s started all =
+    started.past ∙ ap (λ (specs : List SetSpec). log (map start_order specs))
+    (take_all n t.plan.installs all ∙ ap (λ (x : Task). x.plan.installs) (sym started.task))

@@ -7,6 +7,7 @@ pub mod Filters
 pub mod Taking
 pub mod Idling
 pub mod Asking
+pub mod Scripting
 pub mod Starting
 pub mod Ordering
 pub mod Registered

@@ -56,12 +56,12 @@ impl<W: Watcher, C: Closer<Held<W>>> HostState<W, C> {
 
     /// Records that a box of the plug-in on the hart asked for the withdrawal of its set, which waits.
     pub fn withdraw(&mut self, no: u8, plugin: u8, how: How)
+        requires open { self.old.short ≡ false }
         requires least { 1 ≤ plugin }
         requires asked { asked_order plugin (waiting (task_run self.old.task) plugin no self.old.past) ≡ Some (withdrawal plugin how) }
         requires caught_up { wanted (task_run self.old.task) self.old.past ≡ None }
         requires room { 0 < self.old.journal.spare }
         ensures recorded { self.new.past ≡ asked_item no plugin how ∷ self.old.past }
-        ensures asked { GoesOn (IsAskedBy no) self.old.past self.new.past }
         ensures rest { self.new ≡ record self.old { past = self.new.past; journal = self.new.journal; registry = self.new.registry } }
         ensures unmoved { IsUnmoved self.old.task no self.old.past self.new.past }
         ensures quieted { IsQuieted self.old.task no plugin self.old.past self.new.past }
@@ -87,6 +87,7 @@ impl<W: Watcher, C: Closer<Held<W>>> HostState<W, C> {
 
     /// Records what the boxes of one plug-in on the hart asked for, if they asked.
     fn ask_one(&mut self, no: u8, plugin: u8, ask: Ask)
+        requires open { self.old.short ≡ false }
         requires least { 1 ≤ plugin }
         requires ask { ask ≡ waiting (task_run self.old.task) plugin no self.old.past }
         requires caught_up { wanted (task_run self.old.task) self.old.past ≡ None }

@@ -19,6 +19,7 @@ mod reading;
 mod recording;
 mod returning;
 mod rooms;
+mod scripting;
 mod specs;
 mod states;
 mod summing;

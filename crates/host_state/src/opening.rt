@@ -1,8 +1,8 @@
-//! The state before the first hold: the plan's installs are placed, one after the other.
+//! The state before the first hold: the plan's installs are placed, and the lines of its script that are due before any step.
 
 ghost use Rattle.std.specs.Prelude.{◌≡◌, ◌∷◌, ◌<◌, ◌≤◌, ◌+◌, ◌*◌, [], Some, None, false, length, map, option_map, replicate};
 ghost use Rattle.std.specs.Prelude.{slice_index_or, vec_len, All, IfOk, OnOk};
-ghost use Rattle.flat_model.specs.declared.limits.TheConstants.{PLUGINS_MOST, RACK_BOXES};
+ghost use Rattle.flat_model.specs.declared.limits.TheConstants.{NO_PARTY, PLUGINS_MOST, RACK_BOXES};
 ghost use Rattle.flat_model.specs.declared.journals.Item.TheVariants.{Ordered};
 ghost use Rattle.flat_model.specs.declared.journals.Order.TheVariants.{Install};
 ghost use Rattle.flat_model.specs.declared.journals.Origin.TheVariants.{Start};
@@ -13,6 +13,8 @@ ghost use Rattle.watcher_api.specs.Attachment.{IsWithin, opening};
 ghost use Rattle.plug_registry.specs.Installs.{start_order, refusal_at, AreAllowed};
 ghost use Rattle.host_state.specs.State.{IsWithinLimits, IsCaughtUp};
 ghost use Rattle.host_state.specs.Starting.{HasStarted};
+ghost use Rattle.host_state.specs.Scripting.{IsLineOf};
+ghost use Rattle.baton_gate.specs.Logs.{GoesOn};
 
 use crate::arrivals::{Arrival, arrivals_in, room_for_row};
 use crate::recording::{record_order, room_for_order};
@@ -176,8 +178,8 @@ impl<W: Watcher, C: Closer<Held<W>>> HostState<W, C> {
         Ok(self)
     }
 
-    /// The state before the first hold: the plan's installs stand, and the plan wants nothing more. The rack has 128 boxes and
-    /// 8 closers at least.
+    /// The state before the first hold: the plan's installs stand, and its lines of moment 0 that may. The rack has 128 boxes
+    /// and 8 closers at least.
     pub fn new(
         alloc: Global,
         image: Arc<Image>,
@@ -189,12 +191,11 @@ impl<W: Watcher, C: Closer<Held<W>>> HostState<W, C> {
     ) -> Result<HostState<W, C>, NoMemory>
         requires limits { IsWithinLimits (record { image = image.value; harts = harts; limit = limit }) }
         requires allowed { AreAllowed harts plan.installs }
-        requires lines { plan.script ≡ [] }
         requires boxes { RACK_BOXES ≤ vec_len rack.watchers }
         requires closers { PLUGINS_MOST ≤ vec_len rack.closers }
         ensures task { IfOk result (λ s.
             s.task ≡ record { machine = record { image = image.value; harts = harts; limit = limit }; mode = mode; plan = plan }) }
-        ensures log { IfOk result (λ s. s.past ≡ log (map start_order plan.installs)) }
+        ensures log { IfOk result (λ s. GoesOn (IsLineOf NO_PARTY) (log (map start_order plan.installs)) s.past) }
         ensures caught_up { IfOk result IsCaughtUp }
         ensures open { IfOk result (λ s. s.short ≡ false) }
     {
@@ -210,6 +211,7 @@ impl<W: Watcher, C: Closer<Held<W>>> HostState<W, C> {
         for i in 0..installs {
             state = state.with_install(alloc, i)?;
         }
+        state.script_opening(alloc)?;
         Ok(state)
     }
 }

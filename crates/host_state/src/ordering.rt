@@ -1,4 +1,4 @@
-//! Orders of controllers.
+//! Orders as they change the state, and those of controllers.
 
 ghost use Rattle.std.specs.Prelude.{◌≡◌, ◌∷◌, ◌<◌, None, false, vec_len, vec_capacity, IfErr, OnOk, OnErr};
 ghost use Rattle.flat_model.specs.declared.journals.Item.TheVariants.{Ordered};
@@ -6,6 +6,7 @@ ghost use Rattle.flat_model.specs.declared.journals.Origin.TheVariants.{Control}
 ghost use Rattle.flat_model.specs.declared.journals.Order.TheVariants.{Install, Register};
 ghost use Rattle.flat_model.specs.Registry.{refusal, is_hart};
 ghost use Rattle.run_rules.specs.Due.{wanted};
+ghost use Rattle.run_rules.specs.Legal.{Legal};
 ghost use Rattle.run_order.specs.InOrder.{task_run};
 ghost use Rattle.kept_order.specs.Ordering.{IsWithdrawal};
 ghost use Rattle.host_state.specs.Ordering.{IsAsBefore, IsOfRegistry, IsWithoutMemory, ChangesByOrder};
@@ -44,13 +45,12 @@ fn room_for_one_more<A, B, D, E>(
 }
 
 impl<W: Watcher, C: Closer<Held<W>>> HostState<W, C> {
-    /// Withdraws the set of a plug-in by an order of a controller that the registry allows.
-    fn withdraw_by(&mut self, alloc: Global, party: u8, order: Order) -> Result<(), NoMemory>
+    /// Withdraws the set of a plug-in by an order that may stand.
+    fn withdraw_by(&mut self, alloc: Global, origin: Origin, order: Order) -> Result<(), NoMemory>
         requires withdrawal { IsWithdrawal order }
-        requires caught_up { wanted (task_run self.old.task) self.old.past ≡ None }
-        requires controller { is_hart self.old.registry.table party ≡ false }
+        requires legal { Legal (task_run self.old.task) (Ordered origin order ∷ self.old.past) }
         requires allowed { refusal self.old.registry.table order ≡ None }
-        ensures ordered { OnOk result (self.new.past ≡ Ordered (Control party) order ∷ self.old.past) }
+        ensures ordered { OnOk result (self.new.past ≡ Ordered origin order ∷ self.old.past) }
         ensures rest { self.new ≡ record self.old { past = self.new.past; journal = self.new.journal; registry = self.new.registry } }
         ensures unchanged { OnErr result (IsAsBefore self.old self.new) }
     {
@@ -60,25 +60,24 @@ impl<W: Watcher, C: Closer<Held<W>>> HostState<W, C> {
             &mut self.registry,
             &mut self.journal,
             &self.past,
-            Origin::Control { party },
+            origin,
             order,
             copy,
         );
         Ok(())
     }
 
-    /// Registers a set of an Idle plug-in by an order of a controller that the registry allows: it waits for each hart.
+    /// Registers a set of an Idle plug-in by an order that may stand: it waits for each hart.
     fn register_by(
         &mut self,
         alloc: Global,
-        party: u8,
+        origin: Origin,
         plugin: u8,
         spec: SetSpec,
     ) -> Result<(), NoMemory>
-        requires caught_up { wanted (task_run self.old.task) self.old.past ≡ None }
-        requires controller { is_hart self.old.registry.table party ≡ false }
+        requires legal { Legal (task_run self.old.task) (Ordered origin (Register plugin spec) ∷ self.old.past) }
         requires allowed { refusal self.old.registry.table (Register plugin spec) ≡ None }
-        ensures ordered { OnOk result (self.new.past ≡ Ordered (Control party) (Register plugin spec) ∷ self.old.past) }
+        ensures ordered { OnOk result (self.new.past ≡ Ordered origin (Register plugin spec) ∷ self.old.past) }
         ensures rest { self.new ≡ record self.old {
           past = self.new.past;
           journal = self.new.journal;
@@ -106,19 +105,18 @@ impl<W: Watcher, C: Closer<Held<W>>> HostState<W, C> {
             &mut self.registry,
             &mut self.journal,
             &self.past,
-            Origin::Control { party },
+            origin,
             order,
             Order::Register { plugin, spec },
         );
         Ok(())
     }
 
-    /// Installs a plug-in by an order of a controller that the registry allows: its set waits for each hart.
-    fn install_by(&mut self, alloc: Global, party: u8, spec: SetSpec) -> Result<(), NoMemory>
-        requires caught_up { wanted (task_run self.old.task) self.old.past ≡ None }
-        requires controller { is_hart self.old.registry.table party ≡ false }
+    /// Installs a plug-in by an order that may stand: its set waits for each hart.
+    fn install_by(&mut self, alloc: Global, origin: Origin, spec: SetSpec) -> Result<(), NoMemory>
+        requires legal { Legal (task_run self.old.task) (Ordered origin (Install spec) ∷ self.old.past) }
         requires allowed { refusal self.old.registry.table (Install spec) ≡ None }
-        ensures ordered { OnOk result (self.new.past ≡ Ordered (Control party) (Install spec) ∷ self.old.past) }
+        ensures ordered { OnOk result (self.new.past ≡ Ordered origin (Install spec) ∷ self.old.past) }
         ensures rest { self.new ≡ record self.old {
           past = self.new.past;
           journal = self.new.journal;
@@ -157,28 +155,32 @@ impl<W: Watcher, C: Closer<Held<W>>> HostState<W, C> {
             &mut self.registry,
             &mut self.journal,
             &self.past,
-            Origin::Control { party },
+            origin,
             order,
             Order::Install { spec },
         );
         Ok(())
     }
 
-    /// Carries out an order of a controller that the registry allows.
-    fn order_by(&mut self, alloc: Global, party: u8, order: Order) -> Result<(), NoMemory>
-        requires caught_up { wanted (task_run self.old.task) self.old.past ≡ None }
-        requires controller { is_hart self.old.registry.table party ≡ false }
+    /// Carries out an order that may stand, whoever gives it.
+    pub(crate) fn order_by(
+        &mut self,
+        alloc: Global,
+        origin: Origin,
+        order: Order,
+    ) -> Result<(), NoMemory>
+        requires legal { Legal (task_run self.old.task) (Ordered origin order ∷ self.old.past) }
         requires allowed { refusal self.old.registry.table order ≡ None }
-        ensures ordered { OnOk result (self.new.past ≡ Ordered (Control party) order ∷ self.old.past) }
+        ensures ordered { OnOk result (self.new.past ≡ Ordered origin order ∷ self.old.past) }
         ensures rest { ChangesByOrder self.old self.new }
         ensures unchanged { OnErr result (IsAsBefore self.old self.new) }
     {
         match order {
-            Order::Install { spec } => self.install_by(alloc, party, spec),
-            Order::Register { plugin, spec } => self.register_by(alloc, party, plugin, spec),
-            Order::Reset { plugin } => self.withdraw_by(alloc, party, Order::Reset { plugin }),
+            Order::Install { spec } => self.install_by(alloc, origin, spec),
+            Order::Register { plugin, spec } => self.register_by(alloc, origin, plugin, spec),
+            Order::Reset { plugin } => self.withdraw_by(alloc, origin, Order::Reset { plugin }),
             Order::Uninstall { plugin } => {
-                self.withdraw_by(alloc, party, Order::Uninstall { plugin })
+                self.withdraw_by(alloc, origin, Order::Uninstall { plugin })
             }
         }
     }
@@ -207,7 +209,7 @@ impl<W: Watcher, C: Closer<Held<W>>> HostState<W, C> {
         if let Err(why) = self.registry.check(&order) {
             return Err(Refused::Because(why));
         }
-        self.order_by(alloc, party, order)?;
+        self.order_by(alloc, Origin::Control { party }, order)?;
         Ok(())
     }
 }

@@ -1,10 +1,9 @@
 //! States before any hold.
 
-ghost use Rattle.std.specs.Prelude.{◌≡◌, [], None, All, IfOk, map, vec_len};
+ghost use Rattle.std.specs.Prelude.{◌≡◌, [], None, All, IfOk, vec_len};
 ghost use Rattle.flat_model.specs.declared.limits.TheConstants.{PLUGINS_MOST, RACK_BOXES};
-ghost use Rattle.flat_model.specs.Log.{log};
-ghost use Rattle.plug_registry.specs.Installs.{start_order};
 ghost use Rattle.host_state.specs.State.{IsCaughtUp};
+ghost use Rattle.host_core.specs.Runs.{IsPlanned};
 
 use crate::sets::sets;
 use flat_model::limits::{PLUGINS_MOST, RACK_BOXES};
@@ -71,8 +70,9 @@ fn closers(alloc: Global) -> Result<Vec<Notices<Held<Recorder>>>, NoMemory>
 }
 
 /// The state of a run of three words on one hart or two, with the sets of so many plug-ins.
+#[tactic(auto, using(crate::proofs::Fresh::planned))]
 pub fn opened(alloc: Global, harts: u8, mode: Mode, plugins: usize) -> Result<State, Fail>
-    ensures log { IfOk result (λ s. s.past ≡ log (map start_order s.task.plan.installs)) }
+    ensures planned { IfOk result (λ s. All IsPlanned s.past) }
     ensures caught_up { IfOk result IsCaughtUp }
     ensures harts { IfOk result (λ s. s.task.machine.harts ≡ harts) }
 {

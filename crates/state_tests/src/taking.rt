@@ -1,15 +1,14 @@
 //! Sets that a hart takes out of a state.
 
-ghost use Rattle.std.specs.Prelude.{◌≡◌, true, false, IfOk, OnOk, IsTrue, map};
+ghost use Rattle.std.specs.Prelude.{◌≡◌, true, false, All, IfOk, OnOk, IsTrue};
 ghost use Rattle.std.specs.List.{list_any};
-ghost use Rattle.flat_model.specs.Log.{log};
 ghost use Rattle.flat_model.specs.Registry.{owes};
-ghost use Rattle.plug_registry.specs.Installs.{start_order};
 ghost use Rattle.run_rules.specs.Legal.{is_there, owes_any, numbers};
 ghost use Rattle.run_rules.specs.Places.{is_with_hart};
 ghost use Rattle.run_order.specs.Sets.{sets_for};
 ghost use Rattle.run_order.specs.InOrder.{task_run};
 ghost use Rattle.kept_order.specs.Hearing.{specs_for};
+ghost use Rattle.host_core.specs.Runs.{IsPlanned};
 
 use crate::opening::State;
 use flat_model::NoMemory;
@@ -29,7 +28,7 @@ pub struct Taken {
 /// What a hart has before any hold.
 #[tactic(auto, using(crate::proofs::Fresh::no_sets, crate::proofs::Fresh::no_specs))]
 pub fn nothing(alloc: Global, state: &State, no: u8) -> Result<Taken, NoMemory>
-    requires log { state.now.past ≡ log (map start_order state.now.task.plan.installs) }
+    requires planned { All IsPlanned state.now.past }
     ensures attached { IfOk result (λ t. t.attached ≡ sets_for is_with_hart (task_run state.now.task) no state.now.past) }
     ensures specs { IfOk result (λ t. t.specs ≡ specs_for (task_run state.now.task) no state.now.past) }
 {

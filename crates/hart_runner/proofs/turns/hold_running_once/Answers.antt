@@ -6,7 +6,7 @@ use Rattle.baton_gate.specs.Passes.{seen}
 use Rattle.run_order.specs.InOrder.{InOrder}
 use Rattle.host_state.specs.State.{StateValue, stored_of}
 use Rattle.hart_runner.specs.Parts.{IsPart}
-use Rattle.hart_runner.proofs.Between.{comes_ahead, is_plain, adds_own, added_at, part_gone}
+use Rattle.hart_runner.proofs.Between.{comes_ahead, adds_own, added_at, part_gone}
 use Rattle.hart_runner.proofs.turns.hold_running_once.Goals as goal
 
 pub take_running_part-held-requires-clause-comes : goal.take_running_part-held-requires-clause-comes
@@ -18,12 +18,6 @@ take_running_part-held-requires-clause-comes g c =
     c.take-state.ensures.log)
     (c.requires.sits c.deref_mut.result.now.task (c.take-state.ensures.frame ∙ ap (λ (s : StateValue). Some s.task) (sym b)))
     c.requires.ahead
-
-pub take_running_part-held-requires-clause-plain : goal.take_running_part-held-requires-clause-plain
-take_running_part-held-requires-clause-plain g c =
-    let b = c.deref_mut.ensures.value in
-    is_plain c.args.place.now c.deref_mut.result.now.task c.args.pass.now.party (seen c.args.pass.now)
-    (c.requires.sits c.deref_mut.result.now.task (c.take-state.ensures.frame ∙ ap (λ (s : StateValue). Some s.task) (sym b)))
 
 pub give-requires-clause-log : goal.give-requires-clause-log
 give-requires-clause-log g c =

@@ -2,7 +2,7 @@ use Rattle.run_order.specs.InOrder.{Task}
 use Rattle.std.proofs.Common.{◌+◌, map}
 use Rattle.host_core.proofs.LastStates.{is_run_of, may_finish}
 use Rattle.host_core.proofs.MappedJobs.{to_ok}
-use Rattle.host_core.proofs.Planned.{installs_are_planned}
+use Rattle.host_core.proofs.Planned.{opening_is_planned}
 use Rattle.host_core.proofs.running.run.Goals as goal
 
 pub finish-requires : goal.finish-requires
@@ -29,6 +29,6 @@ returns g c =
     record {
       run = to_ok c.finish.result _ _
           (λ x done. is_run_of s.gate s.own (map (λ r. r.pass) c.in_ok-runners.runners.items) task (c.args.harts + 1) c.args.harts x
-          c.in_ok-gate.ensures.own (installs_are_planned _ c.args.plan.installs c.in_ok-gate.ensures.log) done)
+          c.in_ok-gate.ensures.own (opening_is_planned _ c.args.plan.installs c.in_ok-gate.ensures.log) done)
           c.finish.ensures.finished;
     }

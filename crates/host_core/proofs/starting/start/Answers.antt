@@ -2,16 +2,19 @@ use Rattle.std.proofs.Common.{◌≡◌, ◌++◌, ◌∷◌, ◌∙◌, ◌+◌
 use Rattle.std.specs.Prelude.{MatchOption}
 use Rattle.std.specs.Option.{option_to_list}
 use Rattle.flat_model.specs.declared.journals.Item.{Item}
+use Rattle.flat_model.specs.declared.limits.TheConstants.{NO_PARTY}
 use Rattle.flat_model.specs.Image.{Program}
 use Rattle.flat_model.specs.Log.{log}
 use Rattle.plug_registry.specs.Installs.{start_order}
 use Rattle.run_order.specs.InOrder.{Task}
+use Rattle.baton_gate.specs.Logs.{GoesOn}
 use Rattle.baton_gate.specs.Passes.{AreNew, IsNewPass, seen}
+use Rattle.host_state.specs.Scripting.{IsLineOf}
 use Rattle.host_state.specs.State.{StateValue}
 use Rattle.host_core.specs.Stages.{IsFirstSeat}
 use Rattle.host_core.proofs.FirstPasses.{all_numbers, low_number, own_new, runner_new}
 use Rattle.host_core.proofs.FirstSeats.{ready_first}
-use Rattle.host_core.proofs.Planned.{installs_are_planned}
+use Rattle.host_core.proofs.Planned.{opening_is_planned}
 use Rattle.host_core.proofs.starting.start.Goals as goal
 
 abbrev task : (g : _) → goal.After-drop-shared-2 g → Task
@@ -22,12 +25,12 @@ task g c = record {
 }
 
 abbrev past : (g : _) → goal.After-drop-shared-2 g → List Item
-past g c = log (map start_order c.args.plan.installs)
+past g c = c.in_ok-state.state.past
 
 new : (g : _) (c : goal.After-drop-shared-2 g)
     → AreNew c.in_ok-gate.gate c.in_ok-gate.passes.items (c.args.harts + 1) (past g c) (task g c)
 new g c =
-    let logs = ap (λ (s : StateValue). s.past) c.in_ok-new.ensures.ok ∙ c.in_ok-state.ensures.log in
+    let logs = ap (λ (s : StateValue). s.past) c.in_ok-new.ensures.ok in
     let tasks = ap (λ (s : StateValue). s.task) c.in_ok-new.ensures.ok ∙ c.in_ok-state.ensures.task in
     subst (λ (y : List Item × Task). AreNew c.in_ok-gate.gate c.in_ok-gate.passes.items (c.args.harts + 1) y.0 y.1)
     (λ i. (logs i, tasks i)) c.in_ok-gate.ensures.passes
@@ -45,7 +48,9 @@ own g c =
     c.unwrap-own.result (new g c) (many g c) (popped g c)
 
 pub returns-clause-log : goal.returns-clause-log
-returns-clause-log g c = (own g c).seen_is
+returns-clause-log g c =
+    subst (λ (xs : List Item). GoesOn (IsLineOf NO_PARTY) (log (map start_order c.args.plan.installs)) xs) (sym (own g c).seen_is)
+    c.in_ok-state.ensures.log
 
 pub returns-clause-own : goal.returns-clause-own
 returns-clause-own g c =
@@ -76,7 +81,7 @@ returns-clause-ready g c k d low =
     c.unwrap-own.result (new g c) (many g c) (popped g c) (λ r. r.pass) c.in_ok-runners.runners.items c.in_ok-runners.ensures.passes
     k d low)
     seats (c.in_ok-runners.ensures.blocks k d low) (c.in_ok-runners.ensures.lists k d low)
-    (installs_are_planned (past g c) c.args.plan.installs refl) c.requires.limits c.requires.lines
+    (opening_is_planned (past g c) c.args.plan.installs c.in_ok-state.ensures.log) c.requires.limits
     (low_number c.in_ok-gate.gate (c.args.harts + 1) c.args.harts (past g c) (task g c) c.in_ok-gate.passes.items c.pop.new.self.items
     c.unwrap-own.result (new g c) (many g c) (popped g c) (λ r. r.pass) c.in_ok-runners.runners.items c.in_ok-runners.ensures.passes
     k d low)

@@ -4,13 +4,12 @@ use Rattle.flat_model.specs.declared.journals.Entry.{Entry}
 use Rattle.flat_model.specs.declared.journals.Item.TheVariants.{Ordered}
 use Rattle.flat_model.specs.declared.journals.Order.{Order}
 use Rattle.flat_model.specs.declared.journals.Order.TheVariants.{Install}
-use Rattle.flat_model.specs.declared.journals.Origin.TheVariants.{Control}
 use Rattle.flat_model.specs.Acts.{calling}
 use Rattle.flat_model.specs.Log.{log}
 use Rattle.flat_model.specs.Registry.{Plugins, after_order}
 use Rattle.watcher_api.specs.Attachment.{Attachment, opening}
 use Rattle.host_state.specs.Rooms.{IsRoomFor}
-use Rattle.host_state.proofs.Controlling.{may_control, may_stand, can_install, as_before, roomier_is_sound, same_map, on_err}
+use Rattle.host_state.proofs.Controlling.{may_control, can_install, as_before, roomier_is_sound, same_map, on_err}
 use Rattle.host_state.proofs.Starting.{pushed, untold, installed_is_sound}
 use Rattle.host_state.proofs.states.HostState.install_by.Goals as goal
 
@@ -44,22 +43,22 @@ spare_closer-requires g c =
 
 pub invariant_of-self-2 : goal.invariant_of-self-2
 invariant_of-self-2 g c =
-    let party = c.args.party in
+    let origin = c.args.origin in
     let spec = c.args.spec in
     let harts = c.harts-harts.ensures.harts in
     let order = Install spec in
-    let may = may_control c.args.self.now _ party order c.self.view_is c.requires.caught_up c.requires.controller c.requires.allowed in
+    let may = may_control c.args.self.now _ origin order c.self.view_is c.requires.legal c.requires.allowed in
     let same : Install c.in_ok-copied.field-0 ≡ order = ap (λ (s : SetSpec). Install s) c.in_ok-copied.ensures in
-    installed_is_sound _ _ (Control party) spec c.self.invariant (may_stand _ party order c.self.invariant may) (record {
+    installed_is_sound _ _ origin spec c.self.invariant may.legal (record {
       task = refl;
       memory = refl;
       services = refl;
       table = c.record_order-self-inside.ensures.table ∙ ap (λ (o : Order). after_order o c.room_for_order.new.registry.table) same
           ∙ ap (λ (r : Plugins). after_order order r) c.room_for_order.ensures.table;
       journal = c.record_order-self-inside.ensures.journal
-          ∙ ap (λ (o : Order). Ordered (Control party) o ∷ log c.room_for_order.new.journal.entries) same
-          ∙ ap (λ (es : List Entry). Ordered (Control party) order ∷ log es) c.room_for_order.ensures.entries;
-      past = c.record_order-self-inside.ensures.past ∙ ap (λ (o : Order). Ordered (Control party) o ∷ c.self.inside.past.items) same;
+          ∙ ap (λ (o : Order). Ordered origin o ∷ log c.room_for_order.new.journal.entries) same
+          ∙ ap (λ (es : List Entry). Ordered origin order ∷ log es) c.room_for_order.ensures.entries;
+      past = c.record_order-self-inside.ensures.past ∙ ap (λ (o : Order). Ordered origin o ∷ c.self.inside.past.items) same;
       waiting = pushed _ c.self.inside.waiting.items _ c.arrivals_in.result _
           (c.push_reserved.ensures.items ∙ ap (λ rows. rows ++ c.arrivals_in.result ∷ []) c.room_for_one_more.ensures.waiting)
           (c.arrivals_in.ensures.sets

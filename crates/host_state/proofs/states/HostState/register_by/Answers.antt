@@ -5,7 +5,6 @@ use Rattle.flat_model.specs.declared.journals.Item.TheVariants.{Ordered}
 use Rattle.flat_model.specs.declared.journals.Entry.{Entry}
 use Rattle.flat_model.specs.declared.journals.Order.{Order}
 use Rattle.flat_model.specs.declared.journals.Order.TheVariants.{Register}
-use Rattle.flat_model.specs.declared.journals.Origin.TheVariants.{Control}
 use Rattle.flat_model.specs.Acts.{calling}
 use Rattle.flat_model.specs.Log.{log}
 use Rattle.flat_model.specs.Registry.{Plugins, after_order}
@@ -56,16 +55,15 @@ invariant_of-self-2 g c =
     let spec = c.args.spec in
     let harts = c.harts-harts.ensures.harts in
     let order = Register plugin spec in
-    let may = may_control c.args.self.now _ c.args.party order c.self.view_is c.requires.caught_up c.requires.controller
-    c.requires.allowed in
+    let may = may_control c.args.self.now _ c.args.origin order c.self.view_is c.requires.legal c.requires.allowed in
     let same : Register plugin c.in_ok-copied.field-0 ≡ order = ap (λ (s : SetSpec). Register plugin s) c.in_ok-copied.ensures in
     let place : c.from-place.result - 1 ≡ plugin - 1 = ap (λ (n : ℕ). n - 1) c.from-place.ensures in
-    registered_sound _ c.args.party plugin spec c.record_order-self-inside.result.items c.record_order-self-inside.new.journal
+    registered_sound _ c.args.origin plugin spec c.record_order-self-inside.result.items c.record_order-self-inside.new.journal
     c.record_order-self-inside.new.registry _ _ _ c.in_ok-closing.closing _ _ c.self.invariant may
-    (c.record_order-self-inside.ensures.past ∙ ap (λ (o : Order). Ordered (Control c.args.party) o ∷ c.self.inside.past.items) same)
+    (c.record_order-self-inside.ensures.past ∙ ap (λ (o : Order). Ordered c.args.origin o ∷ c.self.inside.past.items) same)
     (c.record_order-self-inside.ensures.journal
-    ∙ ap (λ (o : Order). Ordered (Control c.args.party) o ∷ log c.room_for_order.new.journal.entries) same
-    ∙ ap (λ (es : List Entry). Ordered (Control c.args.party) order ∷ log es) c.room_for_order.ensures.entries)
+    ∙ ap (λ (o : Order). Ordered c.args.origin o ∷ log c.room_for_order.new.journal.entries) same
+    ∙ ap (λ (es : List Entry). Ordered c.args.origin order ∷ log es) c.room_for_order.ensures.entries)
     (c.record_order-self-inside.ensures.table ∙ ap (λ (o : Order). after_order o c.room_for_order.new.registry.table) same
     ∙ ap (λ (r : Plugins). after_order order r) c.room_for_order.ensures.table)
     (row_set _ c.self.inside.waiting.items _ (c.from-place.result - 1) (plugin - 1) c.arrivals_in-row.result _ refl

@@ -15,13 +15,6 @@ invariant_of-self g c =
     c.withdrawal.result c.withdrawal-2.result c.withdrawal-3.result c.withdrawal.ensures.order c.withdrawal-2.ensures.order
     c.withdrawal-3.ensures.order c.apply.ensures.table c.push.ensures.appends c.with_item-self-inside.ensures.item)
 
-pub returns-clause-asked : goal.returns-clause-asked
-returns-clause-asked g c =
-    (behind_now _ c.args.self.now c.args.no c.args.plugin c.with_item-self-inside.result.items c.self.view_is
-    (behind _ c.args.self.now c.args.no c.args.plugin c.args.how c.with_item-self-inside.result.items c.withdrawal-3.result
-    c.self.invariant c.self.view_is c.requires.least c.requires.asked c.requires.caught_up c.script.ensures.rising
-    c.withdrawal-3.ensures.order c.with_item-self-inside.ensures.item)).asked
-
 pub returns-clause-unmoved : goal.returns-clause-unmoved
 returns-clause-unmoved g c =
     (behind_now _ c.args.self.now c.args.no c.args.plugin c.with_item-self-inside.result.items c.self.view_is
