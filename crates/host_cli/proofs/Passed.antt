@@ -42,8 +42,7 @@ module _ (words : List (List ℕ)) (files : FilesAround) (out report : Around) w
 
   -- the commands that the call with threads passes on
   abbrev pub IsPassedOn : CommandText → Type 0
-  IsPassedOn (Run options None journal file plugins) = ⊥
-  IsPassedOn (Run options (Some script) journal file plugins) = Unit {0}
+  IsPassedOn (Run options script journal file plugins) = ⊥
   IsPassedOn (Replay options script file journal plugins) = Unit {0}
   IsPassedOn (Blocks file) = Unit {0}
   IsPassedOn (Disas file) = Unit {0}
@@ -51,9 +50,7 @@ module _ (words : List (List ℕ)) (files : FilesAround) (out report : Around) w
 
   unbuilt_one : (command : CommandText) (status : ℕ) → command_of words ≡ Some command → IsLeftOut command → IsPassedOn command
       → AreRead files → Refuses None Usage files out report status → Answers words files out report status None
-  unbuilt_one (Run options None journal file plugins) status is left passed read put = absurd passed
-  unbuilt_one (Run options (Some script) journal file plugins) status is left passed read put =
-      host.unbuilt (Run options (Some script) journal file plugins) status is tt read put
+  unbuilt_one (Run options script journal file plugins) status is left passed read put = absurd passed
   unbuilt_one (Replay options script file journal plugins) status is left passed read put =
       host.unbuilt (Replay options script file journal plugins) status is tt read put
   unbuilt_one (Blocks file) status is left passed read put = absurd left

@@ -41,12 +41,12 @@ refuses command name r files out report status named (inr told) silent kept = re
     no_name None told = told
     no_name (Some c) told = told
 
-pub run_names : (options : RunOptions) (journal : Option (List ℕ)) (file : List ℕ) (plugins : List (List ℕ)) (o : Option Input)
-    → input_name o file None [] ≡ named_in (Some (Run options None journal file plugins)) o
-run_names options journal file plugins None = refl
-run_names options journal file plugins (Some File) = refl
-run_names options journal file plugins (Some Script) = refl
-run_names options journal file plugins (Some Journal) = refl
+pub run_names : (options : RunOptions) (script journal : Option (List ℕ)) (file : List ℕ) (plugins : List (List ℕ)) (o : Option Input)
+    → input_name o file script [] ≡ named_in (Some (Run options script journal file plugins)) o
+run_names options script journal file plugins None = refl
+run_names options script journal file plugins (Some File) = refl
+run_names options script journal file plugins (Some Script) = refl
+run_names options script journal file plugins (Some Journal) = refl
 
 pub list_names : (what : ListingOf) (file : List ℕ) (o : Option Input) → input_name o file None [] ≡ named_in (Some (list_command what file)) o
 list_names Instructions file None = refl

@@ -77,8 +77,7 @@ pub data SelfAnswers (n : ℕ) (files : FilesAround) (out report : Around) : ℕ
 
 -- the commands that no call carries out yet
 abbrev pub IsUnbuilt : CommandText → Type 0
-IsUnbuilt (Run options None journal file plugins) = ⊥
-IsUnbuilt (Run options (Some script) journal file plugins) = Unit {0}
+IsUnbuilt (Run options script journal file plugins) = ⊥
 IsUnbuilt (Replay options script file journal plugins) = Unit {0}
 IsUnbuilt (Blocks file) = ⊥
 IsUnbuilt (Disas file) = ⊥
@@ -92,10 +91,10 @@ pub data Answers (words : List (List ℕ)) (files : FilesAround) (out report : A
       → Answers words files out report status None
   unbuilt : (command : CommandText) (status : ℕ) → command_of words ≡ Some command → IsUnbuilt command → AreRead files
       → Refuses None Usage files out report status → Answers words files out report status None
-  runs : (options : RunOptions) (journal : Option (List ℕ)) (file : List ℕ) (plugins : List (List ℕ))
+  runs : (options : RunOptions) (script journal : Option (List ℕ)) (file : List ℕ) (plugins : List (List ℕ))
       (status : ℕ) (state : Option StateValue)
-      → command_of words ≡ Some (Run options None journal file plugins)
-      → RunAnswers options None journal file plugins files out report status state
+      → command_of words ≡ Some (Run options script journal file plugins)
+      → RunAnswers options script journal file plugins files out report status state
       → Answers words files out report status state
   sums_up : (n status : ℕ) (state : Option StateValue) → command_of words ≡ Some (Generated n)
       → SelfAnswers n files out report status state → Answers words files out report status state

@@ -77,12 +77,12 @@ pub fn host<
     match asked {
         Command::Run {
             options,
-            script: None,
+            script,
             journal,
             file,
             plugins,
         } => run(
-            rt, alloc, options, journal, file, &plugins, files, out, report, rack,
+            rt, alloc, options, script, journal, file, &plugins, files, out, report, rack,
         ),
         Command::Generated { n } => run_generated(rt, alloc, n, out, report, rack),
         Command::Blocks { file } => {
@@ -107,9 +107,5 @@ pub fn host<
             };
             carry_out(alloc, replay, files, out, report, rack)
         }
-        Command::Run {
-            script: Some(_),
-            ..
-        } => Ended::without_state(refuse(alloc, report, "", &Refusal::Usage)),
     }
 }

@@ -1,6 +1,6 @@
 //! Runs on threads.
 
-ghost use Rattle.std.specs.Prelude.{◌≡◌, ◌≤◌, option_map, map, vec_len, IfOk, None, []};
+ghost use Rattle.std.specs.Prelude.{◌≡◌, ◌≤◌, option_map, map, vec_len, IfOk};
 ghost use Rattle.plug_registry.specs.Installs.{AreAllowed};
 ghost use Rattle.host_core.specs.Runs.{IsRunOf};
 ghost use Rattle.host_cli.specs.Refusals.{name_in, task_for, head_for};
@@ -64,7 +64,6 @@ pub(crate) fn whole_state<W: Watcher + Send, C: Closer<Held<W>> + Send, R: Threa
 ) -> Result<HostState<W, C>, NoMemory>
     requires within { IsWithin options }
     requires allowed { AreAllowed options.harts inputs.plan.installs }
-    requires lines { inputs.plan.script ≡ [] }
     requires boxes { RACK_BOXES ≤ vec_len rack.watchers }
     requires closers { PLUGINS_MOST ≤ vec_len rack.closers }
     ensures run { IfOk result (IsRunOf (task_for options inputs.image inputs.plan)) }
@@ -94,6 +93,7 @@ pub(crate) fn run<
     rt: &R,
     alloc: Global,
     options: RunOptions,
+    script: Option<&str>,
     journal: Option<&str>,
     file: &str,
     plugins: &[&str],
@@ -105,17 +105,17 @@ pub(crate) fn run<
     requires within { IsWithin options }
     requires boxes { RACK_BOXES ≤ vec_len rack.watchers }
     requires closers { PLUGINS_MOST ≤ vec_len rack.closers }
-    ensures answers { RunAnswers options None (option_map (λ n. n.now) journal.entry) file.now
+    ensures answers { RunAnswers options (option_map (λ n. n.now) script.entry) (option_map (λ n. n.now) journal.entry) file.now
         (map (λ w. w.now) plugins.now)
         (files_around F.told F.contents F.read_faults F.write_faults files.old files.new)
         (around O.pieces O.faults out.old out.new) (around E.pieces E.faults report.old report.new)
         result.status result.state }
     ensures told { F.told files.new ≡ F.told files.old }
 {
-    let inputs = match run_inputs(alloc, files, options.harts, file, plugins, None) {
+    let inputs = match run_inputs(alloc, files, options.harts, file, plugins, script) {
         Ok(inputs) => inputs,
         Err(refusal) => {
-            let name = name_of(&refusal, file, None, "");
+            let name = name_of(&refusal, file, script, "");
             return Ended::without_state(refuse(alloc, report, name, &refusal));
         }
     };

@@ -2,9 +2,8 @@ use Rattle.std.proofs.Common.{◌≡◌, ◌∙◌, refl, sym, ap, ℕ, List, []
 use Rattle.call_inputs.specs.declared.refusals.Refusal.TheVariants.{Usage}
 use Rattle.command_words.specs.declared.commands.Command.{Command}
 use Rattle.command_words.specs.Commands.{command_of, command_text, command_seen}
-use Rattle.command_words.specs.Commands as texts
 use Rattle.command_words.specs.Parts as parts
-use Rattle.host_cli.specs.Answers.{starved, unasked, unbuilt, runs, sums_up}
+use Rattle.host_cli.specs.Answers.{starved, unasked, runs, sums_up}
 use Rattle.host_cli.proofs.Passed.{as_host}
 use Rattle.host_cli.proofs.Told.{refuses}
 use Rattle.host_cli.proofs.outcomes.host.Goals as goal
@@ -26,17 +25,11 @@ returns-in_default-clause-answers g c =
     (refuses None [] Usage _ _ _ c.refuse.result refl c.refuse.ensures.told (record { same = refl; faultless = refl })
     (record { same = refl; faultless = refl })))
 
-pub returns-in-Run-default-None-default-default-default-clause-answers :
-    goal.returns-in-Run-default-None-default-default-default-clause-answers
-returns-in-Run-default-None-default-default-default-clause-answers g c =
-    runs c.in-Run-default-None-default-default-default.options (parts.text_seen c.in-Run-default-None-default-default-default.journal)
-    c.in-Run-default-None-default-default-default.file.now (parts.texts_seen c.in-Run-default-None-default-default-default.plugins.items)
-    c.run.result.status c.run.result.state
-    (read_as _ _ _ _ c.in-Ok.ensures.value c.in-Some.is c.in-Run-default-None-default-default-default.is
-    ∙ ap (λ (s : Option (List ℕ)). Some (texts.Run c.in-Run-default-None-default-default-default.options s
-    (parts.text_seen c.in-Run-default-None-default-default-default.journal) c.in-Run-default-None-default-default-default.file.now
-    (parts.texts_seen c.in-Run-default-None-default-default-default.plugins.items)))
-    (ap parts.text_seen c.in-Run-default-None-default-default-default.script-is))
+pub returns-in-Run-clause-answers : goal.returns-in-Run-clause-answers
+returns-in-Run-clause-answers g c =
+    runs c.in-Run.options (parts.text_seen c.in-Run.script) (parts.text_seen c.in-Run.journal) c.in-Run.file.now
+    (parts.texts_seen c.in-Run.plugins.items) c.run.result.status c.run.result.state
+    (read_as _ _ _ _ c.in-Ok.ensures.value c.in-Some.is c.in-Run.is)
     (rw (c.deref.ensures.value) at c.run.ensures.answers)
 
 pub returns-in-Generated-clause-answers : goal.returns-in-Generated-clause-answers
@@ -59,20 +52,3 @@ pub returns-in-Replay-clause-answers : goal.returns-in-Replay-clause-answers
 returns-in-Replay-clause-answers g c =
     as_host _ _ _ _ _ c.carry_out-in-Replay.result.status c.carry_out-in-Replay.result.state
     (read_as _ _ _ _ c.in-Ok.ensures.value c.in-Some.is c.in-Replay.is) tt c.carry_out-in-Replay.ensures.ends
-
-pub returns-in-Run-default-Some-default-default-default-clause-answers :
-    goal.returns-in-Run-default-Some-default-default-default-clause-answers
-returns-in-Run-default-Some-default-default-default-clause-answers g c =
-    rw (
-      c.without_state-in-Run-default-Some-default-default-default.ensures.status,
-      c.without_state-in-Run-default-Some-default-default-default.ensures.none,
-    )
-    (unbuilt _ c.refuse-in-Run-default-Some-default-default-default.result
-    (read_as _ _ _ _ c.in-Ok.ensures.value c.in-Some.is c.in-Run-default-Some-default-default-default.is
-    ∙ ap (λ (s : Option (List ℕ)). Some (texts.Run c.in-Run-default-Some-default-default-default.options s
-    (parts.text_seen c.in-Run-default-Some-default-default-default.journal) c.in-Run-default-Some-default-default-default.file.now
-    (parts.texts_seen c.in-Run-default-Some-default-default-default.plugins.items)))
-    (ap parts.text_seen c.in-Run-default-Some-default-default-default.script-is)) tt refl
-    (refuses None [] Usage _ _ _ c.refuse-in-Run-default-Some-default-default-default.result refl
-    c.refuse-in-Run-default-Some-default-default-default.ensures.told
-    (record { same = refl; faultless = refl }) (record { same = refl; faultless = refl })))

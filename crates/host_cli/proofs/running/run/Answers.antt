@@ -1,4 +1,4 @@
-use Rattle.std.proofs.Common.{◌∙◌, refl, [], Some, None, inl, map}
+use Rattle.std.proofs.Common.{◌∙◌, refl, [], Some, inl, map}
 use Rattle.std.specs.Prelude.{option_map}
 use Rattle.call_inputs.specs.declared.refusals.Refusal.TheVariants.{OutOfMemory}
 use Rattle.call_inputs.specs.Causes.{by_words}
@@ -13,11 +13,12 @@ pub returns-in-Err-clause-answers : goal.returns-in-Err-clause-answers
 returns-in-Err-clause-answers g c =
     rw (c.without_state.ensures.status, c.without_state.ensures.none)
     (refused c.in-Err.refusal c.refuse.result c.in-Err.ensures.cases
-    (refuses (Some (Run c.args.options None (option_map (λ n. n.now) c.args.journal) c.args.file.now (map (λ w. w.now) c.args.plugins.now)))
+    (refuses (Some (Run c.args.options (option_map (λ n. n.now) c.args.script) (option_map (λ n. n.now) c.args.journal) c.args.file.now
+    (map (λ w. w.now) c.args.plugins.now)))
     c.name_of-name.result.now c.in-Err.refusal _ _ _ c.refuse.result
     (c.name_of-name.ensures.name
-    ∙ run_names c.args.options (option_map (λ n. n.now) c.args.journal) c.args.file.now (map (λ w. w.now) c.args.plugins.now)
-    (input_of c.in-Err.refusal))
+    ∙ run_names c.args.options (option_map (λ n. n.now) c.args.script) (option_map (λ n. n.now) c.args.journal) c.args.file.now
+    (map (λ w. w.now) c.args.plugins.now) (input_of c.in-Err.refusal))
     c.refuse.ensures.told
     (record { same = refl; faultless = refl }) (record { same = c.in-Err.ensures.unchanged; faultless = c.in-Err.ensures.writes })))
 
@@ -26,7 +27,8 @@ returns-in_default-clause-answers g c =
     rw (c.without_state-in_default.ensures.status, c.without_state-in_default.ensures.none)
     (refused OutOfMemory c.refuse_for_memory.result
     (by_words (c.in-Ok.inputs.image, c.in-Ok.ensures.cases.0.0) tt c.in-Ok.ensures.cases.1)
-    (refuses (Some (Run c.args.options None (option_map (λ n. n.now) c.args.journal) c.args.file.now (map (λ w. w.now) c.args.plugins.now)))
+    (refuses (Some (Run c.args.options (option_map (λ n. n.now) c.args.script) (option_map (λ n. n.now) c.args.journal) c.args.file.now
+    (map (λ w. w.now) c.args.plugins.now)))
     [] OutOfMemory _ _ _ c.refuse_for_memory.result refl
     (inl (c.refuse_for_memory.ensures.status, c.refuse_for_memory.ensures.told))
     (record { same = refl; faultless = refl }) (record { same = c.in-Ok.ensures.unchanged; faultless = c.in-Ok.ensures.writes })))
