@@ -1,11 +1,13 @@
 #!/usr/bin/env python3
-"""Runs the guests of several harts under examples/guests/several and compares what they write with what is known of them.
+"""Runs the guests of several harts under examples/guests/several, compares what they write with what is known of them, and replays
+the journal of each run.
 
     harts.py [PROGRAM [ROUNDS]]
 
 PROGRAM stands in place of tcg_host. Each guest runs ROUNDS times, 2 where nothing is said, on 1, 2, 4, 8 and 32 harts; those that
 spin until others have come run on one hart alone.
-What it writes doesn't depend on how the harts' steps interleave; how many steps they make does.
+What it writes doesn't depend on how the harts' steps interleave; how many steps they make does. The replay of its journal prints what
+the run printed, and ends with its status.
 """
 
 import re
@@ -38,13 +40,18 @@ FIRST = {"starter"}
 ALONE = {"barrier", "queue"}
 
 
+def called(program, *words):
+    """What a call of the program prints, and its status."""
+    return subprocess.run([program, *words], capture_output=True, timeout=SECONDS)
+
+
 def differences(program, name, harts, place):
-    """How one run differs from what is known."""
+    """How one run differs from what is known, and its replay from the run."""
     journal = Path(place) / "journal"
-    start = ["--start", "first"] if name in FIRST else []
-    words = ["run", "--harts", str(harts), *start, "--journal", journal, GUESTS / (name + ".elf"), "counts"]
+    guest = GUESTS / (name + ".elf")
+    options = ["--harts", str(harts)] + (["--start", "first"] if name in FIRST else [])
     try:
-        got = subprocess.run([program, *words], capture_output=True, timeout=SECONDS)
+        got = called(program, "run", *options, "--journal", journal, guest, "counts")
     except subprocess.TimeoutExpired:
         yield f"didn't end in {SECONDS} seconds"
         return
@@ -65,9 +72,16 @@ def differences(program, name, harts, place):
         if counted.get(what) != str(count):
             yield f"counted {counted.get(what)} of {what}, not {count}"
     head = journal.read_bytes()[:26]
-    journal.unlink()
     if head[:8] != MAGIC or head[16:18] != bytes([harts, name in FIRST]):
         yield f"wrote a journal that begins with {head.hex(' ')}"
+    try:
+        again = called(program, "replay", *options, guest, journal, "counts")
+    except subprocess.TimeoutExpired:
+        yield f"wasn't replayed in {SECONDS} seconds"
+        return
+    journal.unlink()
+    if (again.stdout, again.stderr, again.returncode) != (got.stdout, got.stderr, got.returncode):
+        yield f"was replayed otherwise: status {again.returncode}, {again.stdout!r}, {again.stderr[:500]!r}"
 
 
 def main(arguments):
@@ -90,7 +104,7 @@ def main(arguments):
                 different += bool(found)
                 for text in found:
                     print(f"harts: {name} on {harts}: {text}")
-    print(f"harts: {runs} runs of {len(WRITES)} guests, {different + len(unknown)} differ")
+    print(f"harts: {runs} runs of {len(WRITES)} guests and their replays, {different + len(unknown)} differ")
     return 1 if different or unknown else 0
 
 

@@ -6,19 +6,22 @@ use Rattle.code_listing.specs.declared.listings.ListingOf.{ListingOf}
 use Rattle.code_listing.specs.declared.listings.ListingOf.TheVariants.{Instructions}
 use Rattle.code_listing.specs.declared.listings.ListingOf.TheVariants as listings
 use Rattle.code_listing.specs.Listings.{IsListing}
+use Rattle.journal_file.specs.Head.{FileState}
 use Rattle.command_words.specs.declared.values.RunOptions.{RunOptions}
 use Rattle.command_words.specs.Commands.{CommandText, Run, Replay, Blocks, Disas, Generated, command_of}
 use Rattle.call_inputs.specs.declared.refusals.Refusal.{Refusal}
 use Rattle.call_inputs.specs.declared.refusals.Refusal.TheVariants.{Usage, OutOfMemory}
-use Rattle.call_inputs.specs.Causes.{RunCause, ImageCause}
+use Rattle.call_inputs.specs.Causes.{RunCause, ReplayCause, ImageCause}
 use Rattle.call_inputs.specs.Inputs.{IsImageOf, IsPlanOf}
 use Rattle.call_inputs.specs.Lines.{refusal_status, refusal_line}
 use Rattle.host_core.specs.Runs.{IsRunOf}
+use Rattle.run_replay.specs.Replays.{IsReplayOf}
 use Rattle.host_state.specs.State.{StateValue}
 use Rattle.host_cli.specs.Ends.{RunEnds, out_of_memory_line}
 use Rattle.host_cli.specs.Files.{FilesAround, storage, AreRead, AreKept}
 use Rattle.host_cli.specs.Generated.{generated_options, IsGenerated, IsGeneratedPlan, GeneratedCause, SummaryEnds}
-use Rattle.host_cli.specs.Refusals.{input_of, named_in, task_for}
+use Rattle.host_cli.specs.Refusals.{input_of, named_in, head_for, task_for}
+use Rattle.host_cli.specs.Replays.{AreReplayed, ReplayedCause}
 use Rattle.host_cli.specs.Sinks.{Around, Says, StopsAt, WasTold, IsSilent}
 
 -- a refusal's line was put and its status is answered, or those of want of memory, which the line itself may meet; nothing else happened
@@ -45,6 +48,26 @@ pub data RunAnswers (options : RunOptions) (script journal : Option (List ℕ)) 
       → IsRunOf (task_for options image plan) s
       → RunEnds s journal files out report status
       → RunAnswers options script journal file plugins files out report status (Some s)
+
+-- `replay`: it is refused, all that it names was read and it isn't replayed, or its replay is whole and ends so
+pub data ReplayAnswers (options : RunOptions) (script : Option (List ℕ)) (file journal : List ℕ) (plugins : List (List ℕ))
+    (files : FilesAround) (out report : Around) : ℕ → Option StateValue → Type 0 where
+  refused : (refusal : Refusal) (status : ℕ)
+      → ReplayCause (storage files) (head_for options) file journal plugins script files.reads_before files.reads_now refusal
+      → Refuses (Some (Replay options script file journal plugins)) refusal files out report status
+      → ReplayAnswers options script file journal plugins files out report status None
+  unreplayed : (image : Program) (plan : Planned) (held : FileState) (refusal : Refusal) (status : ℕ)
+      → AreReplayed (storage files) options script file journal plugins image plan held
+      → AreRead files
+      → ReplayedCause (task_for options image plan) held.entries refusal
+      → Refuses (Some (Replay options script file journal plugins)) refusal files out report status
+      → ReplayAnswers options script file journal plugins files out report status None
+  replayed : (image : Program) (plan : Planned) (held : FileState) (s : StateValue) (status : ℕ)
+      → AreReplayed (storage files) options script file journal plugins image plan held
+      → AreRead files
+      → IsReplayOf (task_for options image plan) held.entries s
+      → RunEnds s None files out report status
+      → ReplayAnswers options script file journal plugins files out report status (Some s)
 
 -- `disas` and `blocks`: refused, or the listing of the image is put
 pub data ListAnswers (command : CommandText) (what : ListingOf) (file : List ℕ) (files : FilesAround) (out report : Around) : ℕ → Type 0
@@ -75,10 +98,11 @@ pub data SelfAnswers (n : ℕ) (files : FilesAround) (out report : Around) : ℕ
       → SummaryEnds n s out report status
       → SelfAnswers n files out report status (Some s)
 
--- the commands that no call carries out yet
+-- the commands that no call carries out yet: replays with a script
 abbrev pub IsUnbuilt : CommandText → Type 0
 IsUnbuilt (Run options script journal file plugins) = ⊥
-IsUnbuilt (Replay options script file journal plugins) = Unit {0}
+IsUnbuilt (Replay options None file journal plugins) = ⊥
+IsUnbuilt (Replay options (Some script) file journal plugins) = Unit {0}
 IsUnbuilt (Blocks file) = ⊥
 IsUnbuilt (Disas file) = ⊥
 IsUnbuilt (Generated n) = ⊥
@@ -95,6 +119,10 @@ pub data Answers (words : List (List ℕ)) (files : FilesAround) (out report : A
       (status : ℕ) (state : Option StateValue)
       → command_of words ≡ Some (Run options script journal file plugins)
       → RunAnswers options script journal file plugins files out report status state
+      → Answers words files out report status state
+  replays : (options : RunOptions) (file journal : List ℕ) (plugins : List (List ℕ)) (status : ℕ) (state : Option StateValue)
+      → command_of words ≡ Some (Replay options None file journal plugins)
+      → ReplayAnswers options None file journal plugins files out report status state
       → Answers words files out report status state
   sums_up : (n status : ℕ) (state : Option StateValue) → command_of words ≡ Some (Generated n)
       → SelfAnswers n files out report status state → Answers words files out report status state

@@ -6,5 +6,6 @@ pub mod Refusals
 pub mod Ends
 pub mod Summary
 pub mod Generated
+pub mod Replays
 pub mod Answers
 pub mod Plain

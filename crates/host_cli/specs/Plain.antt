@@ -2,10 +2,11 @@
 use Rattle.std.specs.Prelude.{◌≡◌, ℕ, List, Option, Some, None}
 use Rattle.code_listing.specs.declared.listings.ListingOf.TheVariants.{Instructions}
 use Rattle.code_listing.specs.declared.listings.ListingOf.TheVariants as listings
+use Rattle.command_words.specs.declared.values.RunOptions.{RunOptions}
 use Rattle.command_words.specs.Commands.{CommandText, Run, Replay, Blocks, Disas, Generated}
 use Rattle.call_inputs.specs.declared.refusals.Refusal.TheVariants.{Usage}
 use Rattle.host_state.specs.State.{StateValue}
-use Rattle.host_cli.specs.Answers.{Refuses, ListAnswers, IsUnbuilt}
+use Rattle.host_cli.specs.Answers.{Refuses, ListAnswers, ReplayAnswers, IsUnbuilt}
 use Rattle.host_cli.specs.Commands.{plain_command_of}
 use Rattle.host_cli.specs.Ends.{out_of_memory_line}
 use Rattle.host_cli.specs.Files.{FilesAround, AreRead, AreKept}
@@ -19,6 +20,10 @@ pub data PlainAnswers (words : List (List ℕ)) (files : FilesAround) (out repor
       → PlainAnswers words files out report status None
   unbuilt : (command : CommandText) (status : ℕ) → plain_command_of words ≡ Some command → IsUnbuilt command → AreRead files
       → Refuses None Usage files out report status → PlainAnswers words files out report status None
+  replays : (options : RunOptions) (file journal : List ℕ) (plugins : List (List ℕ)) (status : ℕ) (state : Option StateValue)
+      → plain_command_of words ≡ Some (Replay options None file journal plugins)
+      → ReplayAnswers options None file journal plugins files out report status state
+      → PlainAnswers words files out report status state
   lists_blocks : (file : List ℕ) (status : ℕ) → plain_command_of words ≡ Some (Blocks file)
       → ListAnswers (Blocks file) listings.Blocks file files out report status
       → PlainAnswers words files out report status None
@@ -29,7 +34,8 @@ pub data PlainAnswers (words : List (List ℕ)) (files : FilesAround) (out repor
 -- the commands that aren't carried out without waiting, and those that no call carries out
 abbrev pub IsLeftOut : CommandText → Type 0
 IsLeftOut (Run options script journal file plugins) = Unit {0}
-IsLeftOut (Replay options script file journal plugins) = Unit {0}
+IsLeftOut (Replay options None file journal plugins) = ⊥
+IsLeftOut (Replay options (Some script) file journal plugins) = Unit {0}
 IsLeftOut (Blocks file) = ⊥
 IsLeftOut (Disas file) = ⊥
 IsLeftOut (Generated n) = Unit {0}
@@ -38,6 +44,9 @@ IsLeftOut (Generated n) = Unit {0}
 pub data EndsPlainly (files : FilesAround) (out report : Around) : CommandText → ℕ → Option StateValue → Type 0 where
   refused : (command : CommandText) (status : ℕ) → IsLeftOut command → AreRead files → Refuses None Usage files out report status
       → EndsPlainly files out report command status None
+  replays : (options : RunOptions) (file journal : List ℕ) (plugins : List (List ℕ)) (status : ℕ) (state : Option StateValue)
+      → ReplayAnswers options None file journal plugins files out report status state
+      → EndsPlainly files out report (Replay options None file journal plugins) status state
   lists_blocks : (file : List ℕ) (status : ℕ) → ListAnswers (Blocks file) listings.Blocks file files out report status
       → EndsPlainly files out report (Blocks file) status None
   lists_instructions : (file : List ℕ) (status : ℕ) → ListAnswers (Disas file) Instructions file files out report status

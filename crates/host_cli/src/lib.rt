@@ -11,5 +11,6 @@ mod listing;
 mod outcomes;
 mod plain_calls;
 mod refusing;
+mod replaying;
 mod running;
 mod summary;

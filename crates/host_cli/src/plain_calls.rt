@@ -2,7 +2,7 @@
 
 ghost use Rattle.std.specs.Prelude.{◌≡◌, ◌≤◌, map, string_bytes, vec_len};
 ghost use Rattle.flat_model.specs.declared.limits.TheConstants.{PLUGINS_MOST, RACK_BOXES};
-ghost use Rattle.command_words.specs.Commands.{command_text};
+ghost use Rattle.command_words.specs.Commands.{command_text, KeepsLimits};
 ghost use Rattle.host_cli.specs.Files.{files_around};
 ghost use Rattle.host_cli.specs.Plain.{EndsPlainly, PlainAnswers};
 ghost use Rattle.host_cli.specs.Sinks.{around};
@@ -10,6 +10,7 @@ ghost use Rattle.host_cli.specs.Sinks.{around};
 use crate::listing::list;
 use crate::outcomes::Ended;
 use crate::refusing::{refuse, refuse_for_memory};
+use crate::replaying::replay;
 use call_inputs::Refusal;
 use code_listing::ListingOf;
 use command_words::{Command, command};
@@ -17,8 +18,7 @@ use outer_io::{Files, Sink};
 use std::alloc::Global;
 use watcher_api::{Closer, Held, Rack, Watcher};
 
-/// Carries out a command that waits for nobody. Others are refused as words that are in no command, and so are replays as yet, which
-/// are to take the rack.
+/// Carries out a command that waits for nobody. Others are refused as words that are in no command, and so are replays with a script.
 pub(crate) fn carry_out<W: Watcher, C: Closer<Held<W>>, F: Files, O: Sink, E: Sink>(
     alloc: Global,
     asked: Command<'_>,
@@ -27,12 +27,14 @@ pub(crate) fn carry_out<W: Watcher, C: Closer<Held<W>>, F: Files, O: Sink, E: Si
     report: &mut E,
     rack: Rack<W, C>,
 ) -> Ended<W, C>
+    requires limits { KeepsLimits asked }
+    requires boxes { RACK_BOXES ≤ vec_len rack.watchers }
+    requires closers { PLUGINS_MOST ≤ vec_len rack.closers }
     ensures ends { EndsPlainly (files_around F.told F.contents F.read_faults F.write_faults files.old files.new)
         (around O.pieces O.faults out.old out.new) (around E.pieces E.faults report.old report.new)
         (command_text asked.entry) result.status result.state }
     ensures told { F.told files.new ≡ F.told files.old }
 {
-    let _ = rack;
     match asked {
         Command::Blocks { file } => {
             Ended::without_state(list(alloc, ListingOf::Blocks, file, files, out, report))
@@ -45,9 +47,19 @@ pub(crate) fn carry_out<W: Watcher, C: Closer<Held<W>>, F: Files, O: Sink, E: Si
             out,
             report,
         )),
-        Command::Replay { .. } => {
-            Ended::without_state(refuse(alloc, report, "", &Refusal::Usage))
-        }
+        Command::Replay {
+            options,
+            script: None,
+            file,
+            journal,
+            plugins,
+        } => replay(
+            alloc, options, file, journal, &plugins, files, out, report, rack,
+        ),
+        Command::Replay {
+            script: Some(_),
+            ..
+        } => Ended::without_state(refuse(alloc, report, "", &Refusal::Usage)),
         Command::Run { .. } => Ended::without_state(refuse(alloc, report, "", &Refusal::Usage)),
         Command::Generated { .. } => {
             Ended::without_state(refuse(alloc, report, "", &Refusal::Usage))

@@ -1,8 +1,8 @@
-use crate::calls::{asked, called, called_with, good_sink, only_file};
-use crate::files::{CODE, EXIT_0, EXIT_3, elf};
 use flat_model::Mode;
 use journal_file::{RunHead, read};
+use small_files::{CODE, EXIT_0, EXIT_3, elf};
 use std::test::Fail;
+use test_calls::{asked, called, called_with, good_sink, only_file};
 
 #[test]
 fn each_hart_has_its_line(rt: HostRuntime) -> Result<(), Fail> {

@@ -1,6 +1,6 @@
-use crate::calls::{called, failing_sink, good_sink, only_file};
-use crate::files::{CODE, EXIT_0, all_words, elf, file_of, in_four_segments, nops_and_exit};
+use small_files::{CODE, EXIT_0, all_words, elf, file_of, in_four_segments, nops_and_exit};
 use std::test::Fail;
+use test_calls::{called, failing_sink, good_sink, only_file};
 
 #[test]
 fn code_is_listed_by_words_and_by_blocks(rt: HostRuntime) -> Result<(), Fail> {

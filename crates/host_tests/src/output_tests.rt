@@ -1,6 +1,6 @@
-use crate::calls::{asked, called, failing_sink, good_sink, only_file};
-use crate::files::{ECALL, with_data};
+use small_files::{ECALL, with_data};
 use std::test::Fail;
+use test_calls::{asked, called, failing_sink, good_sink, only_file};
 
 // Writes 4,096 bytes twice and exits with 0.
 const TWO_PIECES: [u32; 10] = [

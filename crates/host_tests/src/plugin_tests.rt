@@ -1,7 +1,7 @@
-use crate::calls::asked;
-use crate::files::{CODE, ECALL, EXIT_0, NOP, elf, with_data};
 use guest_gen::program;
+use small_files::{CODE, ECALL, EXIT_0, NOP, elf, with_data};
 use std::test::Fail;
+use test_calls::asked;
 
 // `jal x0, 0`: one block of one word, for ever.
 const LOOP: [u32; 1] = [0x0000_006F];

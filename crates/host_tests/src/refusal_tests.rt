@@ -1,7 +1,7 @@
-use crate::calls::{called, failing_sink, good_sink, only_file};
-use crate::files::{CODE, EXIT_0, elf};
 use outer_io::MemFiles;
+use small_files::{CODE, EXIT_0, elf};
 use std::test::Fail;
+use test_calls::{called, failing_sink, good_sink, only_file};
 
 const TEXT: &[u8] =
     b"#!/bin/sh\necho this is a text file and no ELF file, though it is long enough\n";

@@ -1,6 +1,25 @@
-use crate::calls::assert_run;
-use crate::files::{CODE, ECALL, EXIT_0, EXIT_3, NOP, elf, nops_and_exit, with_data};
+use small_files::{CODE, ECALL, EXIT_0, EXIT_3, NOP, elf, nops_and_exit, with_data};
+use std::alloc::Global;
+use std::process::Abort;
+use std::sync::Wait;
 use std::test::Fail;
+use std::thread::Threads;
+use test_calls::asked;
+
+/// Asserts what `run F` answers and reports for a file that puts nothing out.
+fn assert_run<R: Abort + Threads + Wait + Sync>(
+    rt: &R,
+    alloc: Global,
+    file: &[u8],
+    status: u8,
+    line: &str,
+) -> Result<(), Fail> {
+    let run = asked(rt, alloc, &["run", "F"], file)?;
+    assert_eq!(rt; run.report.bytes(), line.as_bytes(), "the line {line}");
+    assert_eq!(rt; run.status, status, "the status of {line}");
+    assert_eq!(rt; run.out.bytes().len(), 0, "the output of {line}");
+    Ok(())
+}
 
 #[test]
 fn exits_faults_and_the_limit_are_reported(rt: HostRuntime) -> Result<(), Fail> {

@@ -1,10 +1,10 @@
-use crate::calls::{asked, good_sink, only_file, texts};
-use crate::files::{CODE, EXIT_0, elf};
 use host_cli::host_plain;
 use outer_io::{MemFiles, MemSink};
+use small_files::{CODE, EXIT_0, elf};
 use std::alloc::Global;
 use std::test::Fail;
 use stock_watchers::stock_rack;
+use test_calls::{asked, good_sink, only_file, texts};
 
 #[test]
 fn generated_programs_are_run_and_summed_up(rt: HostRuntime) -> Result<(), Fail> {

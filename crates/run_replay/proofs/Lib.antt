@@ -7,3 +7,12 @@ pub mod Noting
 pub mod Leaves
 pub mod GivenBack
 pub mod Putting
+pub mod Orders
+pub mod Dones
+pub mod Closings
+pub mod Follows
+pub mod Asks
+pub mod Tellings
+pub mod FirstBerths
+pub mod Replayed
+pub mod Entries

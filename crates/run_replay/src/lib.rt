@@ -2,14 +2,23 @@
 #![tactic(auto)]
 
 pub use berths::Berth;
+pub use replaying::replay;
 pub use replays::{Followed, Replay};
 
+mod asking;
 mod backing;
 mod berths;
+mod following;
 mod judging;
 mod leaving;
 mod looking;
+mod opening;
+mod ordering;
 mod places;
+mod replaying;
 mod replays;
+mod same_sets;
+mod starting;
 mod stepping;
+mod telling;
 mod turning;

@@ -1,5 +1,0 @@
-use Rattle.block_finder.specs.Caches.{MayServe}
-use Rattle.host_tests.proofs.block_tests.differing.Given as goal
-
-abbrev pub invariant-loop-k : goal.invariant-loop-k
-invariant-loop-k l = MayServe l.cache l.image
