@@ -35,8 +35,8 @@ WRITES = {
 }
 # Guests whose hart 0 starts the others.
 FIRST = {"starter"}
-# Guests that spin until other harts have come are run on one hart alone: a hart doesn't yet let those that wait for the state go
-# first, so on busy processors one may spin up to its limit before the others have made a step.
+# Guests that spin until other harts have come are run on one hart alone: where the processors are busy, a hart may spin up to its
+# limit before the others' threads have run.
 ALONE = {"barrier", "queue"}
 
 

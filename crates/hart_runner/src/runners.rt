@@ -1,11 +1,13 @@
 //! Runners.
 
+use crate::pacing::Pace;
 use crate::seats::Seat;
 use crate::tapes::Tape;
 use baton_gate::Pass;
 use block_finder::BlockCache;
 use host_state::HostState;
 use instr_lists::ListCache;
+use std::sync::Arc;
 use watcher_api::{Closer, Held, Watcher};
 
 /// What runs a hart: its pass of the gate, the hart with its boxes while it has neither left nor failed, and the blocks and
@@ -18,6 +20,8 @@ pub struct Runner<W: Watcher, C: Closer<Held<W>>> {
     pub lists: ListCache,
     /// The blocks of its last hold behind the first.
     pub tape: Tape,
+    /// How far the harts of the run have come.
+    pub pace: Arc<Pace>,
 }
 
 /// What a turn did.

@@ -13,6 +13,7 @@ use crate::delivering::hear_turn;
 use crate::going_ahead::{Ahead, go_ahead_from};
 use crate::holding::Hold;
 use crate::making_way::{IDLE_PAUSES, make_way};
+use crate::pacing::Stride;
 use crate::parts::{take_running_part, take_still_part};
 use crate::runners::{Runner, Turned};
 use crate::seats::Seat;
@@ -297,6 +298,15 @@ impl<W: Watcher, C: Closer<Held<W>>> Runner<W, C> {
         )
     }
 
+    /// Waits until its hart, where it goes on, isn't far ahead of the others.
+    fn keep_pace(&self, stride: &mut Stride) {
+        if let Some(seat) = &self.seat {
+            if seat.hart.ending.is_none() {
+                stride.keep(&self.pace, seat.no, seat.hart.steps);
+            }
+        }
+    }
+
     /// Turns until the hart has left, and the calls of its boxes between them.
     pub fn run<R: Wait>(
         &mut self,
@@ -315,12 +325,23 @@ impl<W: Watcher, C: Closer<Held<W>>> Runner<W, C> {
         ensures left { OnOk result (HasLeftLast self.old.pass.party (seen self.new.pass)) }
         ensures over { self.new.seat ≡ None }
     {
+        let no = self.pass.party();
+        let mut stride = Stride::new();
         for _ in rt.forever() {
             let turned = self.turn(rt, gate)?;
             match turned {
-                Turned::Left => return Ok(()),
-                Turned::Went => make_way(gate, 0),
-                Turned::Waited => make_way(gate, IDLE_PAUSES),
+                Turned::Left => {
+                    stride.rest(&self.pace, no);
+                    return Ok(());
+                }
+                Turned::Went => {
+                    make_way(gate, 0);
+                    self.keep_pace(&mut stride);
+                }
+                Turned::Waited => {
+                    stride.rest(&self.pace, no);
+                    make_way(gate, IDLE_PAUSES);
+                }
             }
         }
         unreachable!()

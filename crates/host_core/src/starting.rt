@@ -15,7 +15,7 @@ use baton_gate::{Gate, Pass};
 use block_finder::BlockCache;
 use flat_model::{Image, Mode, NoMemory, Plan};
 use guest_memory::Near;
-use hart_runner::{Runner, Seat, Tape};
+use hart_runner::{Pace, Runner, Seat, Tape};
 use host_state::{HostState, Specs};
 use instr_lists::ListCache;
 use rv_exec::{Hart, RawLog};
@@ -66,6 +66,7 @@ fn runner<W: Watcher, C: Closer<Held<W>>>(
     harts: u8,
     limit: u64,
     mode: Mode,
+    pace: &Arc<Pace>,
     pass: Pass<Box<HostState<W, C>>>,
 ) -> Result<Runner<W, C>, NoMemory>
     ensures pass { IfOk result (λ r. r.pass ≡ pass) }
@@ -81,6 +82,7 @@ fn runner<W: Watcher, C: Closer<Held<W>>>(
         blocks: BlockCache::new(alloc)?,
         lists: ListCache::new(alloc)?,
         tape: Tape::new(alloc)?,
+        pace: Arc::clone(pace)?,
     })
 }
 
@@ -99,9 +101,10 @@ fn runners<W: Watcher, C: Closer<Held<W>>>(
     ensures blocks { IfOk result (λ rs. All (λ r. r.blocks ≡ None) rs.items) }
     ensures lists { IfOk result (λ rs. All (λ r. r.lists ≡ []) rs.items) }
 {
+    let pace = Pace::new(alloc, harts)?;
     let mut runners = Vec::new(alloc);
     for pass in passes {
-        runners.push(runner(alloc, image, harts, limit, mode, pass)?)?;
+        runners.push(runner(alloc, image, harts, limit, mode, &pace, pass)?)?;
     }
     Ok(runners)
 }
