@@ -1,0 +1,6 @@
+mod Recency
+mod Entries
+mod Sets
+mod Spans
+mod Pushed
+mod Gains

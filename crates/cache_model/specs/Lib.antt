@@ -1,0 +1,4 @@
+pub mod Hits
+pub mod Touches
+pub mod Studies
+pub mod Kept
