@@ -26,9 +26,7 @@ module _ (words : List (List ℕ)) (files : FilesAround) (out report : Around) w
   left_out : (command : CommandText) (status : ℕ) → command_of words ≡ Some command → IsLeftOut command → AreRead files
       → Refuses None Usage files out report status → PlainAnswers words files out report status None
   left_out (Run options script journal file plugins) status is left read put = plain.unasked status (plain_is words _ is) read put
-  left_out (Replay options None file journal plugins) status is left read put = absurd left
-  left_out (Replay options (Some script) file journal plugins) status is left read put =
-      plain.unbuilt (Replay options (Some script) file journal plugins) status (plain_is words _ is) tt read put
+  left_out (Replay options script file journal plugins) status is left read put = absurd left
   left_out (Blocks file) status is left read put = absurd left
   left_out (Disas file) status is left read put = absurd left
   left_out (Generated n) status is left read put = plain.unasked status (plain_is words _ is) read put
@@ -37,8 +35,8 @@ module _ (words : List (List ℕ)) (files : FilesAround) (out report : Around) w
   pub as_plain : (command : CommandText) (status : ℕ) (state : Option StateValue) → command_of words ≡ Some command
       → EndsPlainly files out report command status state → PlainAnswers words files out report status state
   as_plain _ _ _ is (plain.refused command status left read put) = left_out command status is left read put
-  as_plain _ _ _ is (plain.replays options file journal plugins status state answers) =
-      plain.replays options file journal plugins status state (plain_is words _ is) answers
+  as_plain _ _ _ is (plain.replays options script file journal plugins status state answers) =
+      plain.replays options script file journal plugins status state (plain_is words _ is) answers
   as_plain _ _ _ is (plain.lists_blocks file status answers) = plain.lists_blocks file status (plain_is words _ is) answers
   as_plain _ _ _ is (plain.lists_instructions file status answers) =
       plain.lists_instructions file status (plain_is words _ is) answers
@@ -51,21 +49,17 @@ module _ (words : List (List ℕ)) (files : FilesAround) (out report : Around) w
   IsPassedOn (Disas file) = Unit {0}
   IsPassedOn (Generated n) = ⊥
 
-  unbuilt_one : (command : CommandText) (status : ℕ) → command_of words ≡ Some command → IsLeftOut command → IsPassedOn command
-      → AreRead files → Refuses None Usage files out report status → Answers words files out report status None
-  unbuilt_one (Run options script journal file plugins) status is left passed read put = absurd passed
-  unbuilt_one (Replay options None file journal plugins) status is left passed read put = absurd left
-  unbuilt_one (Replay options (Some script) file journal plugins) status is left passed read put =
-      host.unbuilt (Replay options (Some script) file journal plugins) status is tt read put
-  unbuilt_one (Blocks file) status is left passed read put = absurd left
-  unbuilt_one (Disas file) status is left passed read put = absurd left
-  unbuilt_one (Generated n) status is left passed read put = absurd passed
+  none_left : (command : CommandText) (status : ℕ) → IsLeftOut command → IsPassedOn command → Answers words files out report status None
+  none_left (Run options script journal file plugins) status left passed = absurd passed
+  none_left (Replay options script file journal plugins) status left passed = absurd left
+  none_left (Blocks file) status left passed = absurd left
+  none_left (Disas file) status left passed = absurd left
+  none_left (Generated n) status left passed = absurd passed
 
   pub as_host : (command : CommandText) (status : ℕ) (state : Option StateValue) → command_of words ≡ Some command → IsPassedOn command
       → EndsPlainly files out report command status state → Answers words files out report status state
-  as_host _ _ _ is passed (plain.refused command status left read put) =
-      unbuilt_one command status is left passed read put
-  as_host _ _ _ is passed (plain.replays options file journal plugins status state answers) =
-      host.replays options file journal plugins status state is answers
+  as_host _ _ _ is passed (plain.refused command status left read put) = none_left command status left passed
+  as_host _ _ _ is passed (plain.replays options script file journal plugins status state answers) =
+      host.replays options script file journal plugins status state is answers
   as_host _ _ _ is passed (plain.lists_blocks file status answers) = host.lists_blocks file status is answers
   as_host _ _ _ is passed (plain.lists_instructions file status answers) = host.lists_instructions file status is answers

@@ -51,12 +51,12 @@ run_names options script journal file plugins (Some File) = refl
 run_names options script journal file plugins (Some Script) = refl
 run_names options script journal file plugins (Some Journal) = refl
 
-pub replay_names : (options : RunOptions) (file journal : List ℕ) (plugins : List (List ℕ)) (o : Option Input)
-    → input_name o file None journal ≡ named_in (Some (Replay options None file journal plugins)) o
-replay_names options file journal plugins None = refl
-replay_names options file journal plugins (Some File) = refl
-replay_names options file journal plugins (Some Script) = refl
-replay_names options file journal plugins (Some Journal) = refl
+pub replay_names : (options : RunOptions) (script : Option (List ℕ)) (file journal : List ℕ) (plugins : List (List ℕ)) (o : Option Input)
+    → input_name o file script journal ≡ named_in (Some (Replay options script file journal plugins)) o
+replay_names options script file journal plugins None = refl
+replay_names options script file journal plugins (Some File) = refl
+replay_names options script file journal plugins (Some Script) = refl
+replay_names options script file journal plugins (Some Journal) = refl
 
 -- a replay that isn't made names no input
 pub unnamed : (t : Task) (es : List Entry) (command : CommandText) (r : Refusal) → ReplayedCause t es r

@@ -98,31 +98,21 @@ pub data SelfAnswers (n : ℕ) (files : FilesAround) (out report : Around) : ℕ
       → SummaryEnds n s out report status
       → SelfAnswers n files out report status (Some s)
 
--- the commands that no call carries out yet: replays with a script
-abbrev pub IsUnbuilt : CommandText → Type 0
-IsUnbuilt (Run options script journal file plugins) = ⊥
-IsUnbuilt (Replay options None file journal plugins) = ⊥
-IsUnbuilt (Replay options (Some script) file journal plugins) = Unit {0}
-IsUnbuilt (Blocks file) = ⊥
-IsUnbuilt (Disas file) = ⊥
-IsUnbuilt (Generated n) = ⊥
-
 -- the ways in which a call ends
 pub data Answers (words : List (List ℕ)) (files : FilesAround) (out report : Around) : ℕ → Option StateValue → Type 0 where
   -- no memory to read the words
   starved : AreRead files → WasTold report out_of_memory_line → IsSilent out → AreKept files → Answers words files out report 7 None
   unasked : (status : ℕ) → command_of words ≡ None → AreRead files → Refuses None Usage files out report status
       → Answers words files out report status None
-  unbuilt : (command : CommandText) (status : ℕ) → command_of words ≡ Some command → IsUnbuilt command → AreRead files
-      → Refuses None Usage files out report status → Answers words files out report status None
   runs : (options : RunOptions) (script journal : Option (List ℕ)) (file : List ℕ) (plugins : List (List ℕ))
       (status : ℕ) (state : Option StateValue)
       → command_of words ≡ Some (Run options script journal file plugins)
       → RunAnswers options script journal file plugins files out report status state
       → Answers words files out report status state
-  replays : (options : RunOptions) (file journal : List ℕ) (plugins : List (List ℕ)) (status : ℕ) (state : Option StateValue)
-      → command_of words ≡ Some (Replay options None file journal plugins)
-      → ReplayAnswers options None file journal plugins files out report status state
+  replays : (options : RunOptions) (script : Option (List ℕ)) (file journal : List ℕ) (plugins : List (List ℕ))
+      (status : ℕ) (state : Option StateValue)
+      → command_of words ≡ Some (Replay options script file journal plugins)
+      → ReplayAnswers options script file journal plugins files out report status state
       → Answers words files out report status state
   sums_up : (n status : ℕ) (state : Option StateValue) → command_of words ≡ Some (Generated n)
       → SelfAnswers n files out report status state → Answers words files out report status state

@@ -18,7 +18,7 @@ use outer_io::{Files, Sink};
 use std::alloc::Global;
 use watcher_api::{Closer, Held, Rack, Watcher};
 
-/// Carries out a command that waits for nobody. Others are refused as words that are in no command, and so are replays with a script.
+/// Carries out a command that waits for nobody. Others are refused as words that are in no command.
 pub(crate) fn carry_out<W: Watcher, C: Closer<Held<W>>, F: Files, O: Sink, E: Sink>(
     alloc: Global,
     asked: Command<'_>,
@@ -49,17 +49,13 @@ pub(crate) fn carry_out<W: Watcher, C: Closer<Held<W>>, F: Files, O: Sink, E: Si
         )),
         Command::Replay {
             options,
-            script: None,
+            script,
             file,
             journal,
             plugins,
         } => replay(
-            alloc, options, file, journal, &plugins, files, out, report, rack,
+            alloc, options, script, file, journal, &plugins, files, out, report, rack,
         ),
-        Command::Replay {
-            script: Some(_),
-            ..
-        } => Ended::without_state(refuse(alloc, report, "", &Refusal::Usage)),
         Command::Run { .. } => Ended::without_state(refuse(alloc, report, "", &Refusal::Usage)),
         Command::Generated { .. } => {
             Ended::without_state(refuse(alloc, report, "", &Refusal::Usage))

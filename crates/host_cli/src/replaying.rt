@@ -1,6 +1,6 @@
 //! Replays of journals.
 
-ghost use Rattle.std.specs.Prelude.{◌≡◌, ◌≤◌, map, vec_len, IfOk, IfErr, None, []};
+ghost use Rattle.std.specs.Prelude.{◌≡◌, ◌≤◌, option_map, map, vec_len, IfOk, IfErr};
 ghost use Rattle.flat_model.specs.declared.limits.TheConstants.{PLUGINS_MOST, RACK_BOXES};
 ghost use Rattle.plug_registry.specs.Installs.{AreAllowed};
 ghost use Rattle.command_words.specs.Commands.{IsWithin};
@@ -33,7 +33,6 @@ fn replayed_state<W: Watcher, C: Closer<Held<W>>>(
 ) -> Result<HostState<W, C>, Refusal>
     requires within { IsWithin options }
     requires allowed { AreAllowed options.harts inputs.plan.installs }
-    requires lines { inputs.plan.script ≡ [] }
     requires boxes { RACK_BOXES ≤ vec_len rack.watchers }
     requires closers { PLUGINS_MOST ≤ vec_len rack.closers }
     ensures replayed { IfOk result (IsReplayOf (task_for options inputs.image inputs.plan) inputs.file.journal.entries) }
@@ -63,6 +62,7 @@ fn replayed_state<W: Watcher, C: Closer<Held<W>>>(
 pub(crate) fn replay<'a, W: Watcher, C: Closer<Held<W>>, F: Files, O: Sink, E: Sink>(
     alloc: Global,
     options: RunOptions,
+    script: Option<&'a str>,
     file: &'a str,
     journal: &'a str,
     plugins: &[&str],
@@ -74,17 +74,18 @@ pub(crate) fn replay<'a, W: Watcher, C: Closer<Held<W>>, F: Files, O: Sink, E: S
     requires within { IsWithin options }
     requires boxes { RACK_BOXES ≤ vec_len rack.watchers }
     requires closers { PLUGINS_MOST ≤ vec_len rack.closers }
-    ensures answers { ReplayAnswers options None file.entry.now journal.entry.now (map (λ w. w.now) plugins.now)
+    ensures answers { ReplayAnswers options (option_map (λ n. n.now) script.entry) file.entry.now journal.entry.now
+        (map (λ w. w.now) plugins.now)
         (files_around F.told F.contents F.read_faults F.write_faults files.old files.new)
         (around O.pieces O.faults out.old out.new) (around E.pieces E.faults report.old report.new)
         result.status result.state }
     ensures told { F.told files.new ≡ F.told files.old }
 {
     let head = head_for(options);
-    let inputs = match replay_inputs(alloc, files, &head, file, journal, plugins, None) {
+    let inputs = match replay_inputs(alloc, files, &head, file, journal, plugins, script) {
         Ok(inputs) => inputs,
         Err(refusal) => {
-            let name = name_of(&refusal, file, None, journal);
+            let name = name_of(&refusal, file, script, journal);
             return Ended::without_state(refuse(alloc, report, name, &refusal));
         }
     };

@@ -285,6 +285,127 @@ fn a_replay_withdraws_what_its_boxes_asked_for(rt: HostRuntime) -> Result<(), Fa
     )
 }
 
+// The start order of `counts`, and what lines 0 and 1 of a script ordered behind a Turn of hart 0: reset 1, and register 1 with `hot`.
+const INSTALL_COUNTS: &[u8] =
+    b"\x02\0\0\0\x01\x7f\0\0\0\0\0\0\0\0\xff\xff\xff\xff\xff\xff\xff\xff\xff\x01\x03\0\0\0\0\0\0\0\0\0\0\0";
+
+const LINE_0: &[u8] = b"\x02\x01\0\0\0\0\0\x02\x01";
+
+const LINE_1: &[u8] =
+    b"\x02\x01\x01\0\0\0\0\x01\x01\0\x01\x02\0\0\0\0\0\0\0\0\xff\xff\xff\xff\xff\xff\xff\xff\xff\x01\x03\0\x01\0\0\0\0\0\0\0\0\0";
+
+const TURN_0_10: &[u8] = b"\x01\0\x0a\0\0\0";
+
+const TURN_0_20: &[u8] = b"\x01\0\x14\0\0\0";
+
+// The last line never comes, and no plug-in 9 is there.
+const SCRIPT: &[u8] =
+    b"at 10 reset 1\nat 20 register 1 hot\nat 20 uninstall 9\nat 99999999 uninstall 1\n";
+
+/// What `replay --limit 30 --script S F J counts` answers and leaves where `F` is a loop, `S` that script and `J` this journal.
+fn scripted<R: Threads + Wait + Sync>(
+    rt: &R,
+    alloc: Global,
+    journal: &[u8],
+) -> Result<Finished, Fail> {
+    let mut files = only_file(alloc, &elf(alloc, CODE, &LOOP)?);
+    let _ = files.add("S", SCRIPT);
+    let _ = files.add("J", journal);
+    called(
+        rt,
+        alloc,
+        &["replay", "--limit=30", "--script=S", "F", "J", "counts"],
+        &mut files,
+        good_sink(alloc),
+        good_sink(alloc),
+    )
+}
+
+#[test]
+fn lines_of_a_script_stand_where_they_fall_due(rt: HostRuntime) -> Result<(), Fail> {
+    let alloc = rt.alloc();
+    for (entries, status, report) in [
+        (
+            [
+                INSTALL_COUNTS,
+                TURN_0_10,
+                LINE_0,
+                BACK_0,
+                DONE_0,
+                TURN_0_10,
+                LINE_1,
+                TURN_0_10,
+                LEAVE_0,
+            ]
+            .as_slice(),
+            9,
+            "hart 0 steps 30 blocks 30 limit\nplugin 1 set 1 reset\nsub 0 counts\ninit 1\nblock 10\ninsn 10\nplugin 1 set 2 live\nsub 0 hot\nblock 0x0000000000010000 runs 10 insns 10\n",
+        ),
+        // A Turn may go on behind the place at which a line falls due; the line stands behind it.
+        (
+            [
+                INSTALL_COUNTS,
+                TURN_0_10,
+                LINE_0,
+                BACK_0,
+                DONE_0,
+                TURN_0_20,
+                LINE_1,
+                LEAVE_0,
+            ]
+            .as_slice(),
+            9,
+            "hart 0 steps 30 blocks 30 limit\nplugin 1 set 1 reset\nsub 0 counts\ninit 1\nblock 10\ninsn 10\nplugin 1 set 2 live\nsub 0 hot\n",
+        ),
+        // A line is left out.
+        (
+            [
+                INSTALL_COUNTS,
+                TURN_0_10,
+                LINE_0,
+                BACK_0,
+                DONE_0,
+                TURN_0_20,
+                LEAVE_0,
+            ]
+            .as_slice(),
+            5,
+            "tcg_host: journal: not a run of this image at entry 6\n",
+        ),
+        // A line stands before it falls due.
+        (
+            [INSTALL_COUNTS, TURN_0_10, LINE_0, LINE_1].as_slice(),
+            5,
+            "tcg_host: journal: not a run of this image at entry 3\n",
+        ),
+        // The plug-in isn't idle yet when line 1 falls due, so that the line is passed over.
+        (
+            [
+                INSTALL_COUNTS,
+                TURN_0_10,
+                LINE_0,
+                BACK_0,
+                TURN_0_20,
+                DONE_0,
+                LEAVE_0,
+            ]
+            .as_slice(),
+            9,
+            "hart 0 steps 30 blocks 30 limit\nplugin 1 set 1 reset\nsub 0 counts\ninit 1\nblock 10\ninsn 10\n",
+        ),
+    ] {
+        let call = scripted(&rt, alloc, &journal_of(alloc, entries)?)?;
+        assert_eq!(rt;
+            call.report.bytes(),
+            report.as_bytes(),
+            "the report {report}"
+        );
+        assert_eq!(rt; call.status, status, "the status of {report}");
+        assert_eq!(rt; call.out.bytes().len(), 0, "the output of {report}");
+    }
+    Ok(())
+}
+
 #[test]
 fn harts_stop_where_the_group_ends(rt: HostRuntime) -> Result<(), Fail> {
     let alloc = rt.alloc();

@@ -1,6 +1,6 @@
 -- Closings that are out: between entries none is, since each is told in the call that takes it.
 use Rattle.std.proofs.Common.{◌≡◌, ◌==◌, ◌&&◌, ◌+◌, ◌-◌, ◌<◌, ◌≤◌, ◌∷◌, [], ◌++◌, ◌∙◌, ℕ, zero, suc, Bool, true, false, List}
-use Rattle.std.proofs.Common.{Option, Some, None, refl, sym, ap, subst, arith, inl, inr}
+use Rattle.std.proofs.Common.{Option, Some, None, refl, sym, ap, subst, arith, inl, inr, length, All}
 use Rattle.std.specs.Prelude.{if◌then◌else◌, slice_index_or, slice_set, is_some, replicate}
 use Rattle.std.proofs.lemmas.Bool.{cases_Bool, false≢true, and_right}
 use Rattle.flat_model.specs.declared.journals.How.TheVariants as how
@@ -21,6 +21,7 @@ use Rattle.run_rules.proofs.Fitting.{complete, installed_from, installed_within,
 use Rattle.run_rules.proofs.Fitting.{reset_admitted, uninstall_admitted}
 use Rattle.run_rules.proofs.Turns.{first_true}
 use Rattle.run_order.specs.Sets.{is_closing_out}
+use Rattle.host_state.specs.Scripting.{IsLineOf}
 
 abbrev pub NoneOut : Run → List Item → Type 0
 NoneOut run past = (p : ℕ) → is_closing_out run p past ≡ false
@@ -107,6 +108,20 @@ none_out_ordered run origin order past legal state none (suc k) =
           ∙ weaker closing (is_closing (plugin_of r p).state) (is_some (taker p past))
           (order_closing r order p (omega arith) legal.1.allowed off) (none p)
     ]
+
+pub none_out_lines : (run : Run) (who : ℕ) (more past : List Item) → All (IsLineOf who) more → Legal run (more ++ past)
+    → IsStateLog run (more ++ past) → NoneOut run past → NoneOut run (more ++ past)
+unfolding Legal IsStateLog
+none_out_lines run who [] past each legal state none = none
+none_out_lines run who (Ordered origin order ∷ more) past each legal state none =
+    none_out_ordered run origin order (more ++ past) legal state
+    (none_out_lines run who more past (λ k d below. each (suc k) d (omega (arith, below))) legal.0 state.0 none)
+none_out_lines run who (Step h ∷ more) past each legal state none = absurd (each 0 (Step h) (omega arith))
+none_out_lines run who (GaveBack h plugin ∷ more) past each legal state none = absurd (each 0 (GaveBack h plugin) (omega arith))
+none_out_lines run who (Left h ∷ more) past each legal state none = absurd (each 0 (Left h) (omega arith))
+none_out_lines run who (Told party plugin ∷ more) past each legal state none = absurd (each 0 (Told party plugin) (omega arith))
+none_out_lines run who (Got h plugin ∷ more) past each legal state none = absurd (each 0 (Got h plugin) (omega arith))
+none_out_lines run who (Took party plugin ∷ more) past each legal state none = absurd (each 0 (Took party plugin) (omega arith))
 
 -- A closing that is taken is told.
 

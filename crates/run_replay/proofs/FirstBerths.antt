@@ -1,70 +1,41 @@
--- A replay before the first entry behind the plan's installs.
+-- A replay before any hold.
 use Rattle.std.proofs.Common.{◌≡◌, ◌+◌, ◌<◌, ◌≤◌, ◌∷◌, [], ◌++◌, ◌∙◌, ℕ, zero, suc, true, false, List, Option, Some, None, refl, sym, ap, subst}
 use Rattle.std.proofs.Common.{length, map, inl, inr, arith}
-use Rattle.std.proofs.Common.{All, nat_lt}
-use Rattle.std.specs.Prelude.{MatchOption, slice_index_or, slice_get, is_some}
-use Rattle.std.specs.Option.{option_map_or}
+use Rattle.std.specs.Prelude.{MatchOption, slice_index_or, is_some}
+use Rattle.std.specs.List.Sorted.{IsNonDecreasingBy}
 use Rattle.std.proofs.lemmas.Bool.{false≢true, and_right}
 use Rattle.std.proofs.lemmas.List.Elements.{All-nil}
 use Rattle.flat_model.specs.declared.plugins.SetSpec.{SetSpec}
-use Rattle.flat_model.specs.declared.journals.Timed.{Timed}
-use Rattle.flat_model.specs.declared.limits.TheConstants.{BLOCK_WORDS}
+use Rattle.flat_model.specs.declared.limits.TheConstants.{NO_PARTY}
 use Rattle.flat_model.specs.declared.journals.Item.{Item}
 use Rattle.flat_model.specs.declared.journals.Item.TheVariants.{Step, Ordered, GaveBack, Left, Told, Got, Took}
 use Rattle.flat_model.specs.declared.journals.Order.TheVariants.{Install}
 use Rattle.flat_model.specs.declared.journals.Origin.TheVariants.{Start, Script, Asked, Control}
 use Rattle.flat_model.specs.Image.{Program}
-use Rattle.flat_model.specs.Log.{log, log_from, journaled, total_steps}
+use Rattle.flat_model.specs.Log.{log, log_from}
 use Rattle.flat_model.specs.Registry.{plugin_of, is_closing}
 use Rattle.block_finder.specs.Caches.{MayServe}
 use Rattle.instr_lists.specs.declared.kept_lists.KeptList.{KeptList}
 use Rattle.plug_registry.specs.Installs.{start_order}
 use Rattle.baton_gate.specs.Logs.{GoesOn}
 use Rattle.run_rules.specs.Guest.{Run, plugins}
-use Rattle.run_rules.specs.Due.{wanted, in_time}
-use Rattle.run_rules.specs.Legal.{Legal, Rule}
-use Rattle.run_rules.specs.Places.{taker}
+use Rattle.run_rules.specs.Due.{wanted}
+use Rattle.run_rules.specs.Legal.{Legal}
+use Rattle.run_rules.specs.Places.{IsStateLog, taker}
 use Rattle.run_order.specs.Sets.{is_closing_out}
-use Rattle.run_order.specs.InOrder.{Task, task_run}
+use Rattle.run_order.specs.InOrder.{Task, InOrder, task_run}
 use Rattle.host_state.specs.Scripting.{IsLineOf}
-use Rattle.host_state.specs.State.{StateValue, IsWithinLimits, IsCaughtUp}
+use Rattle.host_state.specs.State.{StateValue, stored_of, IsWithinLimits, IsCaughtUp}
 use Rattle.replay_order.proofs.Openings.{first_seats_sit}
 use Rattle.run_replay.specs.declared.berths.Berth.{Berth}
 use Rattle.run_replay.specs.First.{IsFirstBerth}
 use Rattle.run_replay.specs.Following.{seating_of, IsPlaced, IsFollowing}
 use Rattle.run_replay.specs.Lists.{IsList, AreLists}
+use Rattle.run_replay.proofs.Closings.{NoneOut, none_out_lines}
+use Rattle.run_replay.proofs.Orders.{lines_keep_place}
 
 abbrev starts_of : Task → List Item
 starts_of t = log (map start_order t.plan.installs)
-
--- a plan without lines has none in its log
-no_line_in_time : (run : Run) (line : ℕ) (past : List Item) → run.plan.script ≡ [] → in_time run line past ≡ false
-no_line_in_time run line past plain =
-    ap (λ (ts : List Timed). option_map_or (λ t. nat_lt (total_steps past) (t.when + BLOCK_WORDS)) (slice_get ts line) false) plain
-
-no_line : (run : Run) (p : ℕ) (x : Item) (past : List Item) → run.plan.script ≡ [] → Rule run x past → IsLineOf p x → ⊥
-no_line run p (Step h) past plain rule is = is
-no_line run p (Ordered Start order) past plain rule is = is
-no_line run p (Ordered (Script line party) order) past plain rule is =
-    false≢true (sym (no_line_in_time run line past plain) ∙ rule.given.1)
-no_line run p (Ordered (Asked h plugin) order) past plain rule is = is
-no_line run p (Ordered (Control party) order) past plain rule is = is
-no_line run p (GaveBack h plugin) past plain rule is = is
-no_line run p (Left h) past plain rule is = is
-no_line run p (Told party plugin) past plain rule is = is
-no_line run p (Got h plugin) past plain rule is = is
-no_line run p (Took party plugin) past plain rule is = is
-
-no_more : (run : Run) (p : ℕ) (more seen : List Item) → run.plan.script ≡ [] → Legal run (more ++ seen) → All (IsLineOf p) more
-    → more ++ seen ≡ seen
-unfolding Legal
-no_more run p [] seen plain legal are = refl
-no_more run p (x ∷ more) seen plain legal are = absurd (no_line run p x (more ++ seen) plain legal.1 (are 0 x (omega arith)))
-
-pub no_lines : (run : Run) (p : ℕ) (past seen : List Item) → run.plan.script ≡ [] → Legal run past → GoesOn (IsLineOf p) seen past
-    → past ≡ seen
-no_lines run p past seen plain legal goes =
-    goes.begins ∙ no_more run p goes.more seen plain (subst (Legal run) goes.begins legal) goes.later
 
 -- start orders take no closing
 untaken : (p : ℕ) (past : List Item) (specs : List SetSpec) → taker p past ≡ None → taker p (log_from past (map start_order specs)) ≡ None
@@ -80,15 +51,6 @@ none_out : (t : Task) (p : ℕ) (past : List Item) → past ≡ starts_of t → 
 none_out t p past is =
     and_right (is_closing (plugin_of (plugins (task_run t) past) p).state) (is_some (taker p past))
     (ap (λ (xs : List Item). is_some (taker p xs)) is ∙ ap is_some (none_taken p t.plan.installs))
-
--- a journal has them all
-journals_starts : (past : List Item) (specs : List SetSpec)
-    → journaled (log_from past (map start_order specs)) ≡ log_from (journaled past) (map start_order specs)
-journals_starts past [] = refl
-journals_starts past (spec ∷ specs) = journals_starts (Ordered Start (Install spec) ∷ past) specs
-
-pub starts_journaled : (specs : List SetSpec) → journaled (log (map start_order specs)) ≡ log (map start_order specs)
-starts_journaled specs = journals_starts [] specs
 
 wants_none : (s : StateValue) → s.short ≡ false → IsCaughtUp s → wanted (task_run s.task) s.past ≡ None
 wants_none s recording (inl short) = absurd (false≢true (sym recording ∙ short))
@@ -106,30 +68,47 @@ module _ {W : Type 0} where
         (All-nil (IsList t.machine.image b.generation b.specs));
   }
 
+  -- and once the lines stand that are due before any step
+  placed_behind : (t : Task) (h : ℕ) (past : List Item) (b : Option (Berth W)) → IsWithinLimits t.machine → h < t.machine.harts
+      → GoesOn (IsLineOf NO_PARTY) (starts_of t) past → Legal (task_run t) past → IsStateLog (task_run t) past
+      → MatchOption b ⊥ (IsFirstBerth t.machine.image t.machine.harts t.mode h) → IsPlaced t h past b
+  placed_behind t h past b limits low lines legal state first =
+      subst (λ (xs : List Item). IsPlaced t h xs b) (sym lines.begins)
+      (lines_keep_place t h NO_PARTY lines.more (starts_of t) b low lines.later (subst (Legal (task_run t)) lines.begins legal)
+      (subst (IsStateLog (task_run t)) lines.begins state) (placed_first t h (starts_of t) b limits low refl first))
+
   follows_first : (s : StateValue) (berths : List (Option (Berth W))) (blocks : Option Program)
-      → s.past ≡ starts_of s.task → IsCaughtUp s → s.short ≡ false → s.task.plan.script ≡ [] → IsWithinLimits s.task.machine
+      → GoesOn (IsLineOf NO_PARTY) (starts_of s.task) s.past → InOrder s.task (stored_of s) → IsCaughtUp s → s.short ≡ false
+      → IsNonDecreasingBy (λ t. t.when) s.task.plan.script → IsWithinLimits s.task.machine
       → length berths ≡ s.task.machine.harts → ((h : ℕ) → h < s.task.machine.harts
       → MatchOption (slice_index_or berths h None) ⊥ (IsFirstBerth s.task.machine.image s.task.machine.harts s.task.mode h))
       → blocks ≡ None → IsFollowing s berths blocks
-  follows_first s berths blocks is caught recording plain limits count first fresh = record {
-    open_now = recording;
-    plain = plain;
-    caught_up = wants_none s recording caught;
-    none_out = λ p. none_out s.task p s.past is;
-    count = count;
-    places = λ h low. placed_first s.task h s.past (slice_index_or berths h None) limits low is (first h low);
-    serves = subst (λ (b : Option Program). MayServe b s.task.machine.image) (sym fresh) tt;
-  }
+  follows_first s berths blocks lines order caught recording rising limits count first fresh =
+      let run = task_run s.task in
+      let none : NoneOut run (lines.more ++ starts_of s.task) =
+      none_out_lines run NO_PARTY lines.more (starts_of s.task) lines.later (subst (Legal run) lines.begins order.legal)
+      (subst (IsStateLog run) lines.begins order.state_log) (λ p. none_out s.task p (starts_of s.task) refl) in
+      record {
+        open_now = recording;
+        rising = rising;
+        caught_up = wants_none s recording caught;
+        none_out = subst (NoneOut run) (sym lines.begins) none;
+        count = count;
+        places = λ h low. placed_behind s.task h s.past (slice_index_or berths h None) limits low lines order.legal order.state_log
+            (first h low);
+        serves = subst (λ (b : Option Program). MayServe b s.task.machine.image) (sym fresh) tt;
+      }
 
   pub opened_first : (t : Task) (s : StateValue) (berths : List (Option (Berth W))) (blocks : Option Program) → s.task ≡ t
-      → s.past ≡ starts_of t → IsCaughtUp s → s.short ≡ false → t.plan.script ≡ [] → IsWithinLimits t.machine
+      → GoesOn (IsLineOf NO_PARTY) (starts_of t) s.past → InOrder s.task (stored_of s) → IsCaughtUp s → s.short ≡ false
+      → IsNonDecreasingBy (λ t. t.when) s.task.plan.script → IsWithinLimits t.machine
       → length berths ≡ t.machine.harts → ((h : ℕ) → h < t.machine.harts
       → MatchOption (slice_index_or berths h None) ⊥ (IsFirstBerth t.machine.image t.machine.harts t.mode h))
       → blocks ≡ None → IsFollowing s berths blocks
-  opened_first t s berths blocks task is caught recording plain limits count first fresh =
+  opened_first t s berths blocks task lines order caught recording rising limits count first fresh =
       let back = sym task in
-      follows_first s berths blocks (subst (λ (u : Task). s.past ≡ starts_of u) back is) caught recording
-      (subst (λ (u : Task). u.plan.script ≡ []) back plain) (subst (λ (u : Task). IsWithinLimits u.machine) back limits)
+      follows_first s berths blocks (subst (λ (u : Task). GoesOn (IsLineOf NO_PARTY) (starts_of u) s.past) back lines) order caught
+      recording rising (subst (λ (u : Task). IsWithinLimits u.machine) back limits)
       (subst (λ (u : Task). length berths ≡ u.machine.harts) back count)
       (subst (λ (u : Task). (h : ℕ) → h < u.machine.harts
       → MatchOption (slice_index_or berths h None) ⊥ (IsFirstBerth u.machine.image u.machine.harts u.mode h)) back first) fresh

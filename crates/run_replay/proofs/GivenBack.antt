@@ -48,7 +48,7 @@ use Rattle.run_replay.specs.declared.berths.Berth.{Berth}
 use Rattle.run_replay.specs.declared.replays.Followed.TheVariants.{Went}
 use Rattle.run_replay.specs.Following.{seating_of, IsBerth, IsPlaced, IsFollowing, IsFollowed, IsNext, IsBreaking}
 use Rattle.run_replay.specs.Lists.{AreLists}
-use Rattle.run_replay.proofs.Going.{GoesBy, goes_on}
+use Rattle.run_replay.proofs.Going.{GoesBy, goes_on, next_alone, none_behind_back}
 
 -- A hart that has left owes nothing.
 
@@ -340,10 +340,11 @@ pub back_follows : {W : Type 0} (h plugin : ℕ) (old new : StateValue) (berths 
 back_follows h plugin old new berths b blocks following order task open_now past berth =
     let more = GaveBack h plugin ∷ [] in
     let goes : GoesBy more old new = record { task = task; open_now = open_now; past = past; order = order } in
-    let next : IsNext (entries.Back h plugin) old new = record { task = task; items = ap journaled past } in
+    let next : IsNext (entries.Back h plugin) old new = next_alone (entries.Back h plugin) old new task (ap journaled past) in
     let own : IsPlaced old.task h (more ++ old.past) (Some b) =
     subst (λ (xs : List Item). IsBerth old.task h xs b) past (subst (λ (x : Task). IsBerth x h new.past b) task berth) in (
       next,
-      goes_on h more old new berths (Some b) blocks blocks following goes (λ g off. (off, tt))
+      goes_on h more old new berths (Some b) blocks blocks following goes
+          (none_behind_back (task_run old.task) old.past following.rising following.caught_up h plugin) (λ g off. (off, tt))
           (λ p. same_out (task_run old.task) h plugin p old.past ∙ following.none_out p) following.serves own,
     )

@@ -1,9 +1,9 @@
 -- What the rules ask of a hart, by what its berth holds.
-use Rattle.std.proofs.Common.{◌≡◌, ◌+◌, ◌-◌, ◌<◌, ◌≤◌, ◌&&◌, ◌||◌, ◌∙◌, ℕ, Bool, true, false, not, nat_lt, List, Option, Some, None}
+use Rattle.std.proofs.Common.{◌≡◌, ◌+◌, ◌-◌, ◌<◌, ◌≤◌, ◌&&◌, ◌||◌, ◌∙◌, ℕ, zero, suc, Bool, true, false, not, nat_lt, List, None}
 use Rattle.std.proofs.Common.{refl, sym, ap, arith, inl, inr, length}
 use Rattle.std.specs.Prelude.{slice_index_or, min, is_some}
 use Rattle.std.specs.List.{list_all}
-use Rattle.std.proofs.lemmas.Bool.{cases_Bool, false≢true, ltb-true, ltb-false}
+use Rattle.std.proofs.lemmas.Bool.{cases_Bool, false≢true, ltb-true, ltb-false, lt-ltb}
 use Rattle.flat_model.specs.declared.journals.Item.{Item}
 use Rattle.flat_model.specs.declared.limits.TheConstants.{BLOCK_WORDS}
 use Rattle.flat_model.specs.Asks.{stays}
@@ -101,17 +101,36 @@ or_true : (b : Bool) → (b || true) ≡ true
 or_true true = refl
 or_true false = refl
 
--- a hart may step where it is there and nothing is wanted, by the rest of the rule
-pub stepping : (run : Run) (h : ℕ) (past : List Item) → is_there run h past ≡ true → wanted run past ≡ None
-    → may_step run h past ≡ (runs run h past && (not (owes_any run h past) && list_all (goes_on_in_time run h past)
-    (numbers (plugins run past))))
-stepping run h past there none =
-    let on = list_all (goes_on_in_time run h past) (numbers (plugins run past)) in
-    let turns : (is_turning h past || passes_nothing_by run past) ≡ true =
-    ap (λ o. is_turning h past || not (is_some o)) none ∙ or_true (is_turning h past) in
-    ap (λ (b : Bool). b && (runs run h past && (not (owes_any run h past) && ((is_turning h past || passes_nothing_by run past) &&
-    on)))) there
-    ∙ ap (λ (b : Bool). runs run h past && (not (owes_any run h past) && (b && on))) turns
+-- a Turn goes on past what is wanted, and begins where nothing is
+begins_or_goes : (run : Run) (h made : ℕ) (past : List Item) → turn_length h past ≡ made → (made ≡ 0 → wanted run past ≡ None)
+    → (is_turning h past || passes_nothing_by run past) ≡ true
+begins_or_goes run h zero past turn none =
+    ap (λ o. is_turning h past || not (is_some o)) (none refl) ∙ or_true (is_turning h past)
+begins_or_goes run h (suc k) past turn none =
+    ap (λ (b : Bool). b || passes_nothing_by run past) (lt-ltb 0 (turn_length h past) (omega (arith, turn)))
+
+-- a hart may step where it is there, by the rest of the rule
+module _ (run : Run) (h made : ℕ) (past : List Item) (there : is_there run h past ≡ true) (turn : turn_length h past ≡ made)
+    (none : made ≡ 0 → wanted run past ≡ None) where
+  abbrev on : Bool
+  on = list_all (goes_on_in_time run h past) (numbers (plugins run past))
+
+  stepping : may_step run h past ≡ (runs run h past && (not (owes_any run h past) && on))
+  stepping =
+      ap (λ (b : Bool). b && (runs run h past && (not (owes_any run h past) && ((is_turning h past || passes_nothing_by run past) &&
+      on)))) there
+      ∙ ap (λ (b : Bool). runs run h past && (not (owes_any run h past) && (b && on))) (begins_or_goes run h made past turn none)
+
+  pub stands_still : runs run h past ≡ false → may_step run h past ≡ false
+  stands_still off = stepping ∙ ap (λ (b : Bool). b && (not (owes_any run h past) && on)) off
+
+  pub owes_first : owes_any run h past ≡ true → may_step run h past ≡ false
+  owes_first owes =
+      stepping ∙ ap (λ (b : Bool). runs run h past && (not b && on)) owes ∙ and_false (runs run h past)
+
+  pub goes_by_asks : runs run h past ≡ true → owes_any run h past ≡ false → on ≡ may_step run h past
+  goes_by_asks is owes =
+      sym (stepping ∙ ap (λ (b : Bool). b && (not (owes_any run h past) && on)) is ∙ ap (λ (b : Bool). not b && on) owes)
 
 -- a hart runs by what it is and what the state has
 pub runs_by : (s : StateValue) (h : ℕ) (hart : HartState) → InOrder s.task (stored_of s)
@@ -121,24 +140,3 @@ runs_by s h hart order is =
     ap (λ (x : HartState). not x.parked && (not (is_some x.ending) && not (is_some s.services.group))) is
     ∙ ap (λ (w : Shared). not (hart_of s.task.machine s.task.mode s.past h).parked
     && (not (is_some (hart_of s.task.machine s.task.mode s.past h).ending) && not (is_some w.group))) order.shared
-
-pub stands_still : (run : Run) (h : ℕ) (past : List Item) → is_there run h past ≡ true → wanted run past ≡ None → runs run h past ≡ false
-    → may_step run h past ≡ false
-stands_still run h past there none off =
-    stepping run h past there none
-    ∙ ap (λ (b : Bool). b && (not (owes_any run h past) && list_all (goes_on_in_time run h past) (numbers (plugins run past)))) off
-
-pub owes_first : (run : Run) (h : ℕ) (past : List Item) → is_there run h past ≡ true → wanted run past ≡ None → owes_any run h past ≡ true
-    → may_step run h past ≡ false
-owes_first run h past there none owes =
-    stepping run h past there none
-    ∙ ap (λ (b : Bool). runs run h past && (not b && list_all (goes_on_in_time run h past) (numbers (plugins run past)))) owes
-    ∙ and_false (runs run h past)
-
-pub goes_by_asks : (run : Run) (h : ℕ) (past : List Item) → is_there run h past ≡ true → wanted run past ≡ None → runs run h past ≡ true
-    → owes_any run h past ≡ false
-    → list_all (goes_on_in_time run h past) (numbers (plugins run past)) ≡ may_step run h past
-goes_by_asks run h past there none is owes =
-    let on = list_all (goes_on_in_time run h past) (numbers (plugins run past)) in
-    sym (stepping run h past there none ∙ ap (λ (b : Bool). b && (not (owes_any run h past) && on)) is ∙ ap (λ (b : Bool). not b && on)
-    owes)

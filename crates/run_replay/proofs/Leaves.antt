@@ -28,7 +28,7 @@ use Rattle.replay_order.proofs.Entries.{broken_rules_break_journals}
 use Rattle.run_replay.specs.declared.berths.Berth.{Berth}
 use Rattle.run_replay.specs.declared.replays.Followed.TheVariants.{Went}
 use Rattle.run_replay.specs.Following.{IsPlaced, IsFollowing, IsFollowed, IsNext, IsBreaking}
-use Rattle.run_replay.proofs.Going.{GoesBy, goes_on}
+use Rattle.run_replay.proofs.Going.{GoesBy, goes_on, next_alone, none_behind_leave}
 
 -- A hart that has left is kept as it is.
 
@@ -188,9 +188,10 @@ pub leave_follows : {W : Type 0} (h : ℕ) (old new : StateValue) (berths : List
     → IsFollowed Went (entries.Leave h) old new (slice_set berths h None) blocks
 leave_follows h old new berths blocks low following order task open_now past =
     let goes : GoesBy (Left h ∷ []) old new = record { task = task; open_now = open_now; past = past; order = order } in
-    let next : IsNext (entries.Leave h) old new = record { task = task; items = ap journaled past } in (
+    let next : IsNext (entries.Leave h) old new = next_alone (entries.Leave h) old new task (ap journaled past) in (
       next,
-      goes_on h (Left h ∷ []) old new berths None blocks blocks following goes (λ g off. (off, tt))
+      goes_on h (Left h ∷ []) old new berths None blocks blocks following goes
+          (none_behind_leave (task_run old.task) old.past following.rising following.caught_up h) (λ g off. (off, tt))
           (λ p. same_out (task_run old.task) h p old.past ∙ following.none_out p) following.serves
           (gone_then (task_run old.task) h old.past low),
     )

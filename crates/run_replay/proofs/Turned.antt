@@ -1,6 +1,6 @@
 -- Turns that are followed, and those that break a rule.
 use Rattle.std.proofs.Common.{◌≡◌, ◌==◌, ◌&&◌, ◌||◌, ◌+◌, ◌<◌, ◌≤◌, ◌++◌, ◌∷◌, [], ◌∙◌, ℕ, zero, suc, Bool, true, false, not, List}
-use Rattle.std.proofs.Common.{Option, Some, None, refl, sym, ap, subst, arith, length, All}
+use Rattle.std.proofs.Common.{Option, Some, None, refl, sym, ap, subst, arith, length, All, append_assoc}
 use Rattle.std.specs.Prelude.{is_some, slice_set, min, slice_index_or, if◌then◌else◌, Result, Ok, Err, OnOk, IfOk}
 use Rattle.std.specs.List.{list_all}
 use Rattle.std.proofs.lemmas.Bool.{false≢true}
@@ -10,6 +10,7 @@ use Rattle.flat_model.specs.declared.events.Ending.{Ending}
 use Rattle.flat_model.specs.declared.journals.Entry.TheVariants as entries
 use Rattle.flat_model.specs.declared.journals.Item.{Item}
 use Rattle.flat_model.specs.declared.journals.Item.TheVariants.{Step, Ordered, GaveBack, Left, Told, Got, Took}
+use Rattle.flat_model.specs.declared.journals.Origin.TheVariants.{Start, Script, Asked, Control}
 use Rattle.flat_model.specs.Image.{Program}
 use Rattle.flat_model.specs.Log.{steps, journaled, party}
 use Rattle.flat_model.specs.Registry.{Plugins, registry, plugin_of, is_closing}
@@ -32,32 +33,33 @@ use Rattle.kept_order.specs.Hearing.{specs_for}
 use Rattle.kept_order.specs.Taking.{AreGots, LittleIsChanged}
 use Rattle.kept_order.proofs.Gots.{gots_change_little}
 use Rattle.kept_order.proofs.HeardTurns.{specs_are_of_sets}
+use Rattle.host_state.specs.Scripting.{IsLineOf}
 use Rattle.host_state.specs.State.{StateValue, stored_of}
 use Rattle.host_state.specs.Taking.{IsGotBy}
 use Rattle.replay_order.specs.Seats.{Seating, Sits}
 use Rattle.replay_order.specs.Steps.{IsNoted}
 use Rattle.replay_order.specs.Takes.{HasTaken}
-use Rattle.replay_order.proofs.Entries.{broken_steps_break_turns, wants_nothing_more}
+use Rattle.replay_order.proofs.Entries.{broken_steps_break_turns}
 use Rattle.replay_order.proofs.Steps.{steps_keep_seats}
 use Rattle.replay_order.proofs.Takes.{takes_keep_seats}
 use Rattle.run_replay.specs.declared.berths.Berth.{Berth}
 use Rattle.run_replay.specs.declared.replays.Followed.{Followed}
-use Rattle.run_replay.specs.declared.replays.Followed.TheVariants.{Went, Breaks}
-use Rattle.run_replay.specs.Following.{seating_of, IsBerth, IsPlaced, IsTurning, IsFollowing, IsFollowed, IsNext, IsBreaking}
+use Rattle.run_replay.specs.declared.replays.Followed.TheVariants.{Went, Overdue, Breaks}
+use Rattle.run_replay.specs.Following.{seating_of, IsBerth, IsPlaced, IsTurning, IsFollowing, IsFollowed, IsNext, IsLast, IsBreaking}
 use Rattle.run_replay.specs.Lists.{AreLists}
-use Rattle.run_replay.specs.Turns.{MayTurn, HasGone, HasTurned, HasStepped, HasMade}
-use Rattle.run_replay.proofs.Going.{GoesBy, goes_on}
-use Rattle.run_replay.proofs.Judged.{hart_low, owes_first}
+use Rattle.run_replay.specs.Overdue.{IsTurn}
+use Rattle.run_replay.specs.Turns.{MayTurn, HasGone, HasFollowedTurn, HasStepped, HasMade, CatchesUp, HasCaughtUp}
+use Rattle.run_replay.proofs.Ahead.{steps_journaled, goes_journaled}
+use Rattle.run_replay.proofs.Closings.{NoneOut, none_out_lines}
+use Rattle.run_replay.proofs.Going.{GoesBy, goes_on, legal_then, state_then}
+use Rattle.run_replay.proofs.Judged.{hart_low}
+use Rattle.run_replay.proofs.Orders.{lines_keep_place}
 
 pub still_ok : {A B : Type 0} (r : Result A B) (P Q : Type 0) → (P → Q) → OnOk r P → OnOk r Q
 still_ok (Ok x) P Q f p = f p
 still_ok (Err e) P Q f p = tt
 
 -- What a Turn adds to a log.
-
-pub steps_journaled : (h n : ℕ) (past : List Item) → journaled (steps h n past) ≡ steps h n (journaled past)
-steps_journaled h zero past = refl
-steps_journaled h (suc n) past = ap (λ (xs : List Item). Step h ∷ xs) (steps_journaled h n past)
 
 pub gots_journaled : (h : ℕ) (more past : List Item) → All (IsGotBy h) more → journaled (more ++ past) ≡ journaled past
 gots_journaled h [] past each = refl
@@ -95,6 +97,23 @@ gots_own h g (Took who number ∷ more) off each = absurd (each 0 (Took who numb
 steps_own : (h g n : ℕ) (more : List Item) → (h == g) ≡ false → AreOfOthers g more → AreOfOthers g (steps h n more)
 steps_own h g zero more off others = others
 steps_own h g (suc n) more off others = (off, steps_own h g n more off others)
+
+lines_own : (h g : ℕ) (lines more : List Item) → (h == g) ≡ false → All (IsLineOf h) lines → AreOfOthers g more → AreOfOthers g (lines ++ more)
+lines_own h g [] more off each others = others
+lines_own h g (Ordered (Script line who) order ∷ lines) more off each others = (
+  ap (λ (k : ℕ). k == g) (each 0 (Ordered (Script line who) order) (omega arith)) ∙ off,
+  lines_own h g lines more off (λ k d low. each (suc k) d (omega (arith, low))) others,
+)
+lines_own h g (Ordered Start order ∷ lines) more off each others = absurd (each 0 (Ordered Start order) (omega arith))
+lines_own h g (Ordered (Asked hart number) order ∷ lines) more off each others =
+    absurd (each 0 (Ordered (Asked hart number) order) (omega arith))
+lines_own h g (Ordered (Control who) order ∷ lines) more off each others = absurd (each 0 (Ordered (Control who) order) (omega arith))
+lines_own h g (Step hart ∷ lines) more off each others = absurd (each 0 (Step hart) (omega arith))
+lines_own h g (GaveBack hart number ∷ lines) more off each others = absurd (each 0 (GaveBack hart number) (omega arith))
+lines_own h g (Left hart ∷ lines) more off each others = absurd (each 0 (Left hart) (omega arith))
+lines_own h g (Told who number ∷ lines) more off each others = absurd (each 0 (Told who number) (omega arith))
+lines_own h g (Got hart number ∷ lines) more off each others = absurd (each 0 (Got hart number) (omega arith))
+lines_own h g (Took who number ∷ lines) more off each others = absurd (each 0 (Took who number) (omega arith))
 
 pub steps_before : (h n : ℕ) (more past : List Item) → steps h n (more ++ past) ≡ steps h n more ++ past
 steps_before h zero more past = refl
@@ -170,6 +189,21 @@ breaks_first s h n some off = breaks_at s s h 0 n some refl refl off
 pub breaks_without : (s : StateValue) (h n : ℕ) → 0 < n → is_there (task_run s.task) h s.past ≡ false → IsBreaking (entries.Turn h n) s
 breaks_without s h n some off = breaks_first s h n some (without (task_run s.task) h s.past off)
 
+-- The same behind sets that were taken.
+
+pub breaks_behind : (h n : ℕ) (old mid : StateValue) → mid.task ≡ old.task → GoesOn (IsGotBy h) old.past mid.past
+    → IsBreaking (entries.Turn h n) mid → IsBreaking (entries.Turn h n) old
+breaks_behind h n old mid task gots broken legal =
+    let same : journaled mid.past ≡ journaled old.past = ap journaled gots.begins ∙ gots_journaled h gots.more old.past gots.later in
+    broken (subst (λ (x : Task). Legal (task_run x) (steps h n (journaled mid.past))) (sym task)
+    (subst (λ (xs : List Item). Legal (task_run old.task) (steps h n xs)) (sym same) legal))
+
+last_behind : (h n : ℕ) (old mid now : StateValue) → mid.task ≡ old.task → GoesOn (IsGotBy h) old.past mid.past
+    → now.task ≡ mid.task → now.past ≡ steps h n mid.past → journaled now.past ≡ steps h n (journaled old.past)
+last_behind h n old mid now task gots on gone =
+    ap journaled gone ∙ steps_journaled h n mid.past
+    ∙ ap (steps h n) (ap journaled gots.begins ∙ gots_journaled h gots.more old.past gots.later)
+
 module _ {W : Type 0} where
   -- One step.
 
@@ -209,8 +243,7 @@ module _ {W : Type 0} where
       let then' : IsTurning t h (made + 1) next d now = record {
         berth = record { sits = sits; kept = is.kept; cached = is.cached };
         is = hart;
-        plain = turning.plain;
-        caught_up = wants_nothing_more run (Step h ∷ []) old.past turning.plain turning.caught_up legal;
+        caught_up = λ none. absurd (omega (arith, none));
         taken = still_taken run h old.past ∙ turning.taken;
         turn = one_longer h old.past ∙ ap (λ (n : ℕ). n + 1) turning.turn;
         serves = is.serves;
@@ -262,8 +295,7 @@ module _ {W : Type 0} where
         berth = berth;
         is = sym same_hart ∙ is ∙ sym (ap (λ (w : World). w.harts h) changed.world)
             ∙ sym (ap (λ (x : Task). hart_of x.machine x.mode new.past h) task);
-        plain = ap (λ (x : Task). x.plan.script) task ∙ may.plain;
-        caught_up = ap (λ (x : Task). wanted (task_run x) new.past) task ∙ changed.wanted ∙ may.caught_up;
+        caught_up = λ none. ap (λ (x : Task). wanted (task_run x) new.past) task ∙ changed.wanted ∙ may.caught_up;
         taken = taken;
         turn = changed.turn h ∙ may.anew;
         serves = subst (λ (x : Task). MayServe blocks x.machine.image) (sym task) may.serves;
@@ -271,53 +303,98 @@ module _ {W : Type 0} where
 
   -- Behind the sets that were taken.
 
-  pub turned : (f : Followed) (h n : ℕ) (old mid new : StateValue) (b : Berth W) (blocks : Option Program) → mid.task ≡ old.task
-      → GoesOn (IsGotBy h) old.past mid.past → HasMade f h n mid new b blocks → HasTurned f h n old new b blocks
-  turned Went h n old mid new b blocks task gots made = record {
-    task = made.task ∙ task;
-    open_now = made.open_now;
-    berth = made.berth;
-    serves = made.serves;
-    between = mid.past;
-    gots = gots;
-    gone = made.gone;
+  -- its steps are a Turn, behind which lines may be due
+  pub is_turn : (h n : ℕ) (mid now : StateValue) (b d : Berth W) (were blocks : Option Program)
+      → IsTurning mid.task h 0 mid.past b were → 0 < n → HasStepped h n mid now d blocks → IsTurn (task_run now.task) h n now.past
+  is_turn h n mid now b d were blocks turning some made = record {
+    before = mid.past;
+    is = made.gone;
+    some = some;
+    anew = turning.turn;
+    caught_up = ap (λ (x : Task). wanted (task_run x) mid.past) made.task ∙ turning.caught_up refl;
   }
-  turned Breaks h n old mid new b blocks task gots made = λ legal.
-      let same : journaled mid.past ≡ journaled old.past = ap journaled gots.begins ∙ gots_journaled h gots.more old.past gots.later in
-      made (subst (λ (x : Task). Legal (task_run x) (steps h n (journaled mid.past))) (sym task)
-      (subst (λ (xs : List Item). Legal (task_run old.task) (steps h n xs)) (sym same) legal))
+
+  pub caught_up : (f : Followed) (h n : ℕ) (old mid now new : StateValue) (b : Berth W) (blocks : Option Program) → mid.task ≡ old.task
+      → GoesOn (IsGotBy h) old.past mid.past → HasStepped h n mid now b blocks → HasCaughtUp f h now new
+      → HasFollowedTurn f h n old new b blocks
+  caught_up Went h n old mid now new b blocks task gots made did =
+      let t = now.task in
+      let lines = did.lines in
+      let carry = λ (P : Task → List Item → Type 0) (is : P new.task new.past).
+      subst (P t) lines.begins (subst (λ (x : Task). P x new.past) did.task is) in
+      let low = hart_low t h now.past (seating_of b) made.berth.sits in
+      let berth : IsBerth t h (lines.more ++ now.past) b =
+      lines_keep_place t h h lines.more now.past (Some b) low lines.later (carry (λ x xs. Legal (task_run x) xs) did.order.legal)
+      (carry (λ x xs. IsStateLog (task_run x) xs) did.order.state_log) made.berth in
+      record {
+        task = did.task ∙ made.task ∙ task;
+        open_now = did.open_now;
+        berth = subst (λ (x : Task). IsBerth x h new.past b) (sym did.task)
+            (subst (λ (xs : List Item). IsBerth t h xs b) (sym lines.begins) berth);
+        serves = subst (λ (x : Task). MayServe blocks x.machine.image) (sym did.task) made.serves;
+        between = mid.past;
+        gots = gots;
+        gone = subst (λ (xs : List Item). GoesOn (IsLineOf h) xs new.past) made.gone lines;
+        caught_up = did.caught_up;
+      }
+  caught_up Overdue h n old mid now new b blocks task gots made did =
+      let last = last_behind h n old mid now task gots made.task made.gone in
+      subst (λ (s : StateValue). IsLast (entries.Turn h n) old s) (sym did.0)
+      (record { task = made.task ∙ task; items = last; overdue = did.1 })
+  caught_up Breaks h n old mid now new b blocks task gots made did = absurd did
+
+  pub caught_up_ok : {E : Type 0} (r : Result Followed E) (h n : ℕ) (old mid now new : StateValue) (b : Berth W) (blocks : Option Program)
+      → mid.task ≡ old.task → GoesOn (IsGotBy h) old.past mid.past → HasStepped h n mid now b blocks
+      → IfOk r (λ f. HasCaughtUp f h now new) → IfOk r (λ f. HasFollowedTurn f h n old new b blocks)
+  caught_up_ok (Ok f) h n old mid now new b blocks task gots made did = caught_up f h n old mid now new b blocks task gots made did
+  caught_up_ok (Err e) h n old mid now new b blocks task gots made did = tt
 
   -- The whole.
 
   pub follows : (f : Followed) (h n : ℕ) (old new : StateValue) (berths : List (Option (Berth W))) (b : Berth W)
-      (were now : Option Program) → IsFollowing old berths were → InOrder new.task (stored_of new) → HasTurned f h n old new b now
+      (were now : Option Program) → IsFollowing old berths were → InOrder new.task (stored_of new) → HasFollowedTurn f h n old new b now
       → IsFollowed f (entries.Turn h n) old new (slice_set berths h (Some b)) now
   follows Breaks h n old new berths b were now following order breaks = breaks
+  follows Overdue h n old new berths b were now following order last = last
   follows Went h n old new berths b were now following order is =
+      let t = old.task in
       let gots = is.gots in
-      let more = steps h n gots.more in
-      let past : new.past ≡ more ++ old.past = is.gone ∙ ap (steps h n) gots.begins ∙ steps_before h n gots.more old.past in
+      let lines = is.gone in
+      let steps_made = steps h n gots.more in
+      let more = lines.more ++ steps_made in
+      let stepped : steps h n is.between ≡ steps_made ++ old.past =
+      ap (steps h n) gots.begins ∙ steps_before h n gots.more old.past in
+      let past : new.past ≡ more ++ old.past =
+      lines.begins ∙ ap (λ (xs : List Item). lines.more ++ xs) stepped ∙ sym (append_assoc lines.more steps_made old.past) in
       let goes : GoesBy more old new = record { task = is.task; open_now = is.open_now; past = past; order = order } in
+      let told : journaled (steps h n is.between) ≡ steps h n (journaled old.past) =
+      steps_journaled h n is.between
+      ∙ ap (steps h n) (ap journaled gots.begins ∙ gots_journaled h gots.more old.past gots.later) in
       let next : IsNext (entries.Turn h n) old new = record {
         task = is.task;
-        items = ap journaled is.gone ∙ steps_journaled h n is.between
-            ∙ ap (steps h n) (ap journaled gots.begins ∙ gots_journaled h gots.more old.past gots.later);
+        party = h;
+        items = subst (λ (xs : List Item). GoesOn (IsLineOf h) xs (journaled new.past)) told
+            (goes_journaled h (steps h n is.between) new.past lines);
       } in
-      let own : IsPlaced old.task h (more ++ old.past) (Some b) =
-      subst (λ (xs : List Item). IsBerth old.task h xs b) past (subst (λ (x : Task). IsBerth x h new.past b) is.task is.berth) in (
+      let own : IsPlaced t h (more ++ old.past) (Some b) =
+      subst (λ (xs : List Item). IsBerth t h xs b) past (subst (λ (x : Task). IsBerth x h new.past b) is.task is.berth) in
+      let wants : wanted (task_run t) (more ++ old.past) ≡ None =
+      subst (λ (xs : List Item). wanted (task_run t) xs ≡ None) past
+      (subst (λ (x : Task). wanted (task_run x) new.past ≡ None) is.task is.caught_up) in
+      let same_log = append_assoc lines.more steps_made old.past in
+      let none : NoneOut (task_run t) (lines.more ++ (steps_made ++ old.past)) =
+      none_out_lines (task_run t) h lines.more (steps_made ++ old.past) lines.later
+      (subst (Legal (task_run t)) same_log (legal_then more old new goes))
+      (subst (IsStateLog (task_run t)) same_log (state_then more old new goes))
+      (λ p. ap (is_closing_out (task_run t) p) (sym (steps_before h n gots.more old.past))
+      ∙ same_out t h n p gots.more old.past (are_gots h gots.more gots.later) ∙ following.none_out p) in (
         next,
-        goes_on h more old new berths (Some b) were now following goes
-            (λ g off. steps_own h g n gots.more off (gots_own h g gots.more off gots.later))
-            (λ p. ap (is_closing_out (task_run old.task) p) (sym (steps_before h n gots.more old.past))
-            ∙ same_out old.task h n p gots.more old.past (are_gots h gots.more gots.later) ∙ following.none_out p)
+        goes_on h more old new berths (Some b) were now following goes wants
+            (λ g off. lines_own h g lines.more steps_made off lines.later
+            (steps_own h g n gots.more off (gots_own h g gots.more off gots.later)))
+            (λ p. subst (NoneOut (task_run t)) (sym same_log) none p)
             (subst (λ (x : Task). MayServe now x.machine.image) is.task is.serves) own,
       )
-
-  pub turned_ok : {E : Type 0} (r : Result Followed E) (h n : ℕ) (old mid new : StateValue) (b : Berth W) (blocks : Option Program)
-      → mid.task ≡ old.task → GoesOn (IsGotBy h) old.past mid.past → IfOk r (λ f. HasMade f h n mid new b blocks)
-      → IfOk r (λ f. HasTurned f h n old new b blocks)
-  turned_ok (Ok f) h n old mid new b blocks task gots made = turned f h n old mid new b blocks task gots made
-  turned_ok (Err e) h n old mid new b blocks task gots made = tt
 
 -- What a step needs.
 

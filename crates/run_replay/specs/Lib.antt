@@ -1,4 +1,6 @@
 pub mod Lists
+pub mod Ahead
+pub mod Overdue
 pub mod Following
 pub mod Turns
 pub mod First

@@ -7,7 +7,7 @@ use Rattle.run_rules.specs.Places.{replaying}
 use Rattle.run_order.specs.InOrder.{InOrder, task_run}
 use Rattle.host_state.specs.State.{StateValue, stored_of}
 use Rattle.run_replay.specs.declared.replays.Followed.{Followed}
-use Rattle.run_replay.specs.declared.replays.Followed.TheVariants.{Went, Breaks}
+use Rattle.run_replay.specs.declared.replays.Followed.TheVariants.{Went, Overdue, Breaks}
 
 -- the state has this log then
 pub record HasRecorded (log : List Item) (old new : StateValue) : Type 0 where
@@ -19,9 +19,11 @@ pub record HasRecorded (log : List Item) (old new : StateValue) : Type 0 where
 -- it has the item, or this may not stand there
 abbrev pub IsJudged : Followed → Item → StateValue → StateValue → Type 0
 IsJudged Went x old new = HasRecorded (x ∷ old.past) old new
+IsJudged Overdue x old new = ⊥
 IsJudged Breaks x old new = Rule (task_run old.task) x old.past → ⊥
 
 -- it has the Done behind a take of the closing by the replay, or no Done may stand there
 abbrev pub IsTold : Followed → ℕ → ℕ → StateValue → StateValue → Type 0
 IsTold Went party plugin old new = HasRecorded (Told party plugin ∷ Took (replaying plugin) plugin ∷ old.past) old new
+IsTold Overdue party plugin old new = ⊥
 IsTold Breaks party plugin old new = Rule (task_run old.task) (Told party plugin) old.past → ⊥

@@ -8,7 +8,6 @@ use Rattle.run_rules.specs.Guest.{Run}
 use Rattle.run_rules.specs.Legal.{Whole, IsBrokenAt}
 use Rattle.run_order.specs.InOrder.{Task, task_run}
 use Rattle.host_state.specs.State.{StateValue}
-use Rattle.run_replay.specs.Following.{IsBreaking}
 
 -- the state of the run that a whole journal tells
 pub record IsReplayOf (t : Task) (es : List Entry) (s : StateValue) : Type 0 where
@@ -21,8 +20,3 @@ pub record IsReplayOf (t : Task) (es : List Entry) (s : StateValue) : Type 0 whe
 abbrev pub IsRefusedAs : Run → List Entry → Refused NotThisRun → Type 0
 IsRefusedAs run es (Because why) = IsBrokenAt run es why.place
 IsRefusedAs run es NoMemory = Unit {0}
-
--- where no memory is, or where this entry of this place breaks a rule
-abbrev pub IsStopped : ℕ → Entry → StateValue → Refused NotThisRun → Type 0
-IsStopped place e s (Because why) = (why.place ≡ place) × IsBreaking e s
-IsStopped place e s NoMemory = Unit {0}

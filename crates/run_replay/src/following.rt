@@ -1,16 +1,28 @@
 //! Following the entries of a journal, one after the other.
 
-ghost use Rattle.std.specs.Prelude.{◌≡◌, ◌≤◌, ◌<◌, ℕ, take, length, slice_index_or, OnOk, IfErr, IfOk};
+ghost use Rattle.std.specs.Prelude.{◌≡◌, ◌≤◌, ◌<◌, ◌+◌, ℕ, take, length, slice_index_or, OnOk, IfErr, IfOk};
 ghost use Rattle.flat_model.specs.declared.journals.Entry.TheVariants as entries;
+ghost use Rattle.flat_model.specs.declared.refusals.Refused.TheVariants.{Because};
 ghost use Rattle.flat_model.specs.Log.{log, journaled, IsJoined};
 ghost use Rattle.run_rules.specs.Due.{turn_length};
 ghost use Rattle.run_order.specs.InOrder.{task_run};
-ghost use Rattle.run_replay.specs.Following.{IsFollowing, IsFollowed, IsNext};
-ghost use Rattle.run_replay.specs.Replays.{IsRefusedAs, IsStopped};
+ghost use Rattle.run_replay.specs.Ahead.{IsAhead};
+ghost use Rattle.run_replay.specs.Following.{IsFollowing, IsFollowed};
+ghost use Rattle.run_replay.specs.Replays.{IsRefusedAs};
 
+use crate::lines::is_line;
 use crate::replays::{Followed, Replay};
 use flat_model::{Entry, NoMemory, NotThisRun, Refused};
 use watcher_api::{Closer, Held, Watcher};
+
+/// The refusal of a journal that isn't whole, by the place of what is wrong.
+pub(crate) fn not_this_run(place: usize) -> Refused<NotThisRun>
+    ensures place { result ≡ Because (record { place = place }) }
+{
+    Refused::Because(NotThisRun {
+        place: place as u64,
+    })
+}
 
 /// The entry of an index.
 fn entry_at(entries: &[Entry], place: usize) -> &Entry
@@ -37,18 +49,50 @@ impl<W: Watcher, C: Closer<Held<W>>> Replay<W, C> {
         }
     }
 
-    /// The same of the entry of an index, which is told where it breaks a rule.
-    fn entry_of(&mut self, entry: &Entry, place: u64) -> Result<(), Refused<NotThisRun>>
+    /// Follows the entry of an index, where the state has no line there yet.
+    fn follow_next(&mut self, entries: &[Entry], place: usize) -> Result<(), Refused<NotThisRun>>
+        requires joined { IsJoined entries.now }
+        requires within { place < length entries.now }
         requires following { IsFollowing self.old.state self.old.berths.items self.old.blocks }
-        requires anew { (h n : ℕ) → entry.now ≡ entries.Turn h n → (turn_length h self.old.state.past ≡ 0) × (0 < n) }
-        ensures next { OnOk result (IsNext entry.now self.old.state self.new.state) }
+        requires told { journaled self.old.state.past ≡ log (take place entries.now) }
         ensures following { OnOk result (IsFollowing self.new.state self.new.berths.items self.new.blocks) }
-        ensures stopped { IfErr result (IsStopped place entry.now self.old.state) }
+        ensures ahead { OnOk result (IsAhead (place + 1) entries.now self.new.state.journal.entries) }
+        ensures task { OnOk result (self.new.state.task ≡ self.old.state.task) }
+        ensures broken { IfErr result (IsRefusedAs (task_run self.old.state.task) entries.now) }
     {
-        match self.entry(entry)? {
+        // Each state is in order.
+        let _ = self.state.task();
+        let followed = self.entry(entry_at(entries, place))?;
+        // And the Turns of its journal are joined.
+        let _ = self.state.task();
+        let _ = self.state.journal().entries();
+        match followed {
             Followed::Went => Ok(()),
-            Followed::Breaks => Err(Refused::Because(NotThisRun { place })),
+            Followed::Overdue => Err(not_this_run(place + 1)),
+            Followed::Breaks => Err(not_this_run(place)),
         }
+    }
+
+    /// Follows the entry of an index. Where the state has placed a line there, the entry is to be that line.
+    fn follow_one(&mut self, entries: &[Entry], place: usize) -> Result<(), Refused<NotThisRun>>
+        requires joined { IsJoined entries.now }
+        requires within { place < length entries.now }
+        requires following { IsFollowing self.old.state self.old.berths.items self.old.blocks }
+        requires ahead { IsAhead place entries.now self.old.state.journal.entries }
+        ensures following { OnOk result (IsFollowing self.new.state self.new.berths.items self.new.blocks) }
+        ensures ahead { OnOk result (IsAhead (place + 1) entries.now self.new.state.journal.entries) }
+        ensures task { OnOk result (self.new.state.task ≡ self.old.state.task) }
+        ensures broken { IfErr result (IsRefusedAs (task_run self.old.state.task) entries.now) }
+    {
+        // Each state is in order.
+        let _ = self.state.task();
+        if place >= self.state.journal().len() {
+            return self.follow_next(entries, place);
+        }
+        if is_line(entry_at(entries, place), self.state.journal().get(place)) {
+            return Ok(());
+        }
+        Err(not_this_run(place))
     }
 
     /// Follows the entries from an index on. The first that breaks a rule is told by its index.
@@ -60,17 +104,14 @@ impl<W: Watcher, C: Closer<Held<W>>> Replay<W, C> {
         requires joined { IsJoined entries.now }
         requires within { first ≤ length entries.now }
         requires following { IsFollowing self.old.state self.old.berths.items self.old.blocks }
-        requires told { journaled self.old.state.past ≡ log (take first entries.now) }
-        ensures followed { OnOk result (IsFollowing self.new.state self.new.berths.items self.new.blocks) }
-        ensures whole { OnOk result (journaled self.new.state.past ≡ log entries.now) }
+        requires ahead { IsAhead first entries.now self.old.state.journal.entries }
+        ensures following { OnOk result (IsFollowing self.new.state self.new.berths.items self.new.blocks) }
+        ensures ahead { OnOk result (IsAhead (length entries.now) entries.now self.new.state.journal.entries) }
         ensures task { OnOk result (self.new.state.task ≡ self.old.state.task) }
         ensures broken { IfErr result (IsRefusedAs (task_run self.old.state.task) entries.now) }
     {
         for place in first..entries.len() {
-            // Each state is in order.
-            let _ = self.state.task();
-            let entry = entry_at(entries, place);
-            match self.entry_of(entry, place as u64) {
+            match self.follow_one(entries, place) {
                 Ok(()) => {}
                 Err(why) => return Err(why),
             }

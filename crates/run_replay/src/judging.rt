@@ -159,7 +159,7 @@ pub(crate) fn may_step<W: Watcher, C: Closer<Held<W>>>(
 ) -> bool
     requires sits { Sits state.now.task no state.now.past (seating_of berth.now) }
     requires is { berth.now.hart ≡ hart_of state.now.task.machine state.now.task.mode state.now.past no }
-    requires caught_up { wanted (task_run state.now.task) state.now.past ≡ None }
+    requires caught_up { made ≡ 0 → wanted (task_run state.now.task) state.now.past ≡ None }
     requires turn { turn_length no state.now.past ≡ made }
     ensures may { result ≡ may_step (task_run state.now.task) no state.now.past }
 {

@@ -1,11 +1,13 @@
-//! A replay before the first entry behind the plan's installs.
+//! A replay before any hold.
 
-ghost use Rattle.std.specs.Prelude.{◌≡◌, ◌≤◌, ◌<◌, ℕ, [], None, map, vec_len, length, slice_index_or, IfOk, MatchOption};
-ghost use Rattle.flat_model.specs.declared.limits.TheConstants.{PLUGINS_MOST, RACK_BOXES};
+ghost use Rattle.std.specs.Prelude.{◌≡◌, ◌≤◌, ◌<◌, ℕ, None, map, vec_len, length, slice_index_or, IfOk, MatchOption};
+ghost use Rattle.flat_model.specs.declared.limits.TheConstants.{NO_PARTY, PLUGINS_MOST, RACK_BOXES};
 ghost use Rattle.flat_model.specs.Log.{log};
 ghost use Rattle.plug_registry.specs.Installs.{start_order, AreAllowed};
 ghost use Rattle.run_rules.specs.Legal.{Legal};
 ghost use Rattle.run_order.specs.InOrder.{task_run};
+ghost use Rattle.baton_gate.specs.Logs.{GoesOn};
+ghost use Rattle.host_state.specs.Scripting.{IsLineOf};
 ghost use Rattle.host_state.specs.State.{IsWithinLimits};
 ghost use Rattle.run_replay.specs.First.{IsFirstBerth};
 ghost use Rattle.run_replay.specs.Following.{IsFollowing};
@@ -62,7 +64,7 @@ fn first_berths<W: Watcher>(
     Ok(berths)
 }
 
-/// The replay once the plan's installs are placed, before any hold.
+/// The replay once the plan's installs are placed and the lines of its script that are due before any step, before any hold.
 pub(crate) fn opened<W: Watcher, C: Closer<Held<W>>>(
     alloc: Global,
     image: Arc<Image>,
@@ -74,20 +76,19 @@ pub(crate) fn opened<W: Watcher, C: Closer<Held<W>>>(
 ) -> Result<Replay<W, C>, NoMemory>
     requires limits { IsWithinLimits (record { image = image.value; harts = harts; limit = limit }) }
     requires allowed { AreAllowed harts plan.installs }
-    requires lines { plan.script ≡ [] }
     requires boxes { RACK_BOXES ≤ vec_len rack.watchers }
     requires closers { PLUGINS_MOST ≤ vec_len rack.closers }
     ensures following { IfOk result (λ r. IsFollowing r.state r.berths.items r.blocks) }
     ensures task { IfOk result (λ r. r.state.task
         ≡ record { machine = record { image = image.value; harts = harts; limit = limit }; mode = mode; plan = plan }) }
-    ensures past { IfOk result (λ r. r.state.past ≡ log (map start_order plan.installs)) }
+    ensures past { IfOk result (λ r. GoesOn (IsLineOf NO_PARTY) (log (map start_order plan.installs)) r.state.past) }
     ensures legal { IfOk result (λ r. Legal (task_run r.state.task) r.state.past) }
 {
     let blocks = BlockCache::new(alloc)?;
     let berths = first_berths(alloc, &image, harts, mode)?;
     let state = HostState::new(alloc, image, harts, limit, mode, plan, rack)?;
-    // Each state is in order.
-    let _ = state.task();
+    // Each state is in order, and the moments of the script's lines never fall.
+    let _ = state.task().script();
     Ok(Replay {
         alloc,
         state,

@@ -21,8 +21,10 @@ pub struct Replay<W: Watcher, C: Closer<Held<W>>> {
 /// What became of an entry.
 #[derive(Clone, Copy, Debug, PartialEq, Eq)]
 pub enum Followed {
-    /// It stands in the log.
+    /// It stands in the log, and the lines of the script that are due behind it.
     Went,
+    /// It stands in the log, but a line that is due behind it can't stand in time any more, so no entry may follow.
+    Overdue,
     /// It breaks a rule.
     Breaks,
 }

@@ -47,7 +47,6 @@ fn tell_by<W: Watcher, C: Closer<Held<W>>>(
     plugin: u8,
 ) -> Result<Followed, NoMemory>
     requires open { state.old.short ≡ false }
-    requires plain { state.old.task.plan.script ≡ [] }
     requires caught_up { wanted (task_run state.old.task) state.old.past ≡ None }
     requires none_out { (p : ℕ) → is_closing_out (task_run state.old.task) p state.old.past ≡ false }
     requires room { 0 < state.old.journal.spare }

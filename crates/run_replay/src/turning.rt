@@ -1,6 +1,6 @@
 //! Turns.
 
-ghost use Rattle.std.specs.Prelude.{◌≡◌, ◌<◌, ◌++◌, true, false, IfOk, OnOk};
+ghost use Rattle.std.specs.Prelude.{◌≡◌, ◌<◌, true, false, IfOk, OnOk};
 ghost use Rattle.flat_model.specs.declared.journals.Entry.TheVariants as entries;
 ghost use Rattle.flat_model.specs.Log.{steps};
 ghost use Rattle.baton_gate.specs.Logs.{GoesOn};
@@ -10,17 +10,19 @@ ghost use Rattle.run_rules.specs.Legal.{owes_any};
 ghost use Rattle.run_rules.specs.Places.{takes_all};
 ghost use Rattle.run_order.specs.InOrder.{task_run};
 ghost use Rattle.run_replay.specs.Following.{IsBerth, IsFollowing, IsFollowed, IsTurning};
-ghost use Rattle.run_replay.specs.Turns.{HasMade, HasTurned, MayTurn};
+ghost use Rattle.run_replay.specs.Turns.{HasMade, HasFollowedTurn, MayTurn};
 
 use crate::berths::Berth;
 use crate::judging::{may_step, owes_any};
 use crate::looking::{look, next_generation};
 use crate::places::{put_back, take_out};
+use crate::placing::place_due;
 use crate::replays::{Followed, Replay};
 use crate::stepping::step;
 use block_finder::BlockCache;
 use flat_model::NoMemory;
 use host_state::HostState;
+use std::alloc::Global;
 use watcher_api::{Closer, Held, Watcher};
 
 /// Gives the hart the sets that wait for it.
@@ -52,30 +54,31 @@ fn take_sets<W: Watcher, C: Closer<Held<W>>>(
     Ok(())
 }
 
-/// Makes the steps of a Turn, one after the other.
+/// Makes the steps of a Turn, one after the other. Whether each of them may be made.
 fn make_steps<W: Watcher, C: Closer<Held<W>>>(
     state: &mut HostState<W, C>,
     no: u8,
     berth: &mut Berth<W>,
     blocks: &mut BlockCache,
     n: u32,
-) -> Result<Followed, NoMemory>
+) -> Result<bool, NoMemory>
     requires turning { IsTurning state.old.task no 0 state.old.past berth.old blocks.old }
     requires open { state.old.short ≡ false }
-    ensures made { IfOk result (λ f. HasMade f no n state.old state.new berth.new blocks.new) }
+    ensures made { IfOk result (λ all. HasMade all no n state.old state.new berth.new blocks.new) }
 {
     for made in 0..n {
         if !may_step(state, no, berth, made) {
-            return Ok(Followed::Breaks);
+            return Ok(false);
         }
         step(state, no, berth, blocks, made)?;
     }
-    Ok(Followed::Went)
+    Ok(true)
 }
 
-/// A Turn of a hart that hasn't left.
+/// A Turn of a hart that hasn't left, with the lines that are due behind it.
 fn turn_berth<W: Watcher, C: Closer<Held<W>>>(
     state: &mut HostState<W, C>,
+    alloc: Global,
     no: u8,
     berth: &mut Berth<W>,
     blocks: &mut BlockCache,
@@ -83,18 +86,22 @@ fn turn_berth<W: Watcher, C: Closer<Held<W>>>(
 ) -> Result<Followed, NoMemory>
     requires may { MayTurn no state.old berth.old blocks.old }
     requires some { 0 < n }
-    ensures turned { IfOk result (λ f. HasTurned f no n state.old state.new berth.new blocks.new) }
+    ensures turned { IfOk result (λ f. HasFollowedTurn f no n state.old state.new berth.new blocks.new) }
 {
     look(state, no, berth);
     if owes_any(state, no) {
         return Ok(Followed::Breaks);
     }
     take_sets(state, no, berth)?;
-    make_steps(state, no, berth, blocks, n)
+    let all = make_steps(state, no, berth, blocks, n)?;
+    if all {
+        return place_due(state, alloc, no, n);
+    }
+    Ok(Followed::Breaks)
 }
 
 impl<W: Watcher, C: Closer<Held<W>>> Replay<W, C> {
-    /// Follows a Turn, step after step.
+    /// Follows a Turn, step after step, and places the lines of the script that are due behind it.
     pub fn turn(&mut self, no: u8, n: u32) -> Result<Followed, NoMemory>
         requires following { IsFollowing self.old.state self.old.berths.items self.old.blocks }
         requires anew { turn_length no self.old.state.past ≡ 0 }
@@ -105,7 +112,14 @@ impl<W: Watcher, C: Closer<Held<W>>> Replay<W, C> {
         let Some(mut berth) = take_out(&mut self.berths, no) else {
             return Ok(Followed::Breaks);
         };
-        let followed = turn_berth(&mut self.state, no, &mut berth, &mut self.blocks, n)?;
+        let followed = turn_berth(
+            &mut self.state,
+            self.alloc,
+            no,
+            &mut berth,
+            &mut self.blocks,
+            n,
+        )?;
         put_back(&mut self.berths, no, berth);
         // Each state is in order.
         let _ = self.state.task();

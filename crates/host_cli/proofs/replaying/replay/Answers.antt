@@ -1,4 +1,5 @@
 use Rattle.std.proofs.Common.{◌∙◌, refl, [], Some, None, map}
+use Rattle.std.specs.Prelude.{option_map}
 use Rattle.command_words.specs.Commands.{Replay}
 use Rattle.journal_file.specs.File.{held}
 use Rattle.host_cli.specs.Answers.{refused, unreplayed, replayed}
@@ -11,10 +12,10 @@ pub returns-in-Err-clause-answers : goal.returns-in-Err-clause-answers
 returns-in-Err-clause-answers g c =
     rw (c.without_state.ensures.status, c.without_state.ensures.none)
     (refused c.in-Err.refusal c.refuse.result (rw c.head_for-head.ensures.head at c.in-Err.ensures.cases)
-    (refuses (Some (Replay c.args.options None c.args.file.now c.args.journal.now (map (λ w. w.now) c.args.plugins.now)))
+    (refuses (Some (Replay c.args.options (option_map (λ n. n.now) c.args.script) c.args.file.now c.args.journal.now (map (λ w. w.now) c.args.plugins.now)))
     c.name_of-name.result.now c.in-Err.refusal _ _ _ c.refuse.result
     (c.name_of-name.ensures.name
-    ∙ replay_names c.args.options c.args.file.now c.args.journal.now (map (λ w. w.now) c.args.plugins.now) (input_of c.in-Err.refusal))
+    ∙ replay_names c.args.options (option_map (λ n. n.now) c.args.script) c.args.file.now c.args.journal.now (map (λ w. w.now) c.args.plugins.now) (input_of c.in-Err.refusal))
     c.refuse.ensures.told
     (record { same = refl; faultless = refl }) (record { same = c.in-Err.ensures.unchanged; faultless = c.in-Err.ensures.writes })))
 
@@ -30,10 +31,10 @@ returns-in-Err-replayed_state-clause-answers g c =
       of_this_run = rw c.head_for-head.ensures.head at c.in-Ok.ensures.cases.0.3;
     }) c.in-Ok.ensures.cases.1
     c.in-Err-replayed_state.ensures.refused
-    (refuses (Some (Replay c.args.options None c.args.file.now c.args.journal.now (map (λ w. w.now) c.args.plugins.now)))
+    (refuses (Some (Replay c.args.options (option_map (λ n. n.now) c.args.script) c.args.file.now c.args.journal.now (map (λ w. w.now) c.args.plugins.now)))
     [] c.in-Err-replayed_state.refusal _ _ _ c.refuse-in-Err-replayed_state.result
     (unnamed (task_for c.args.options c.in-Ok.inputs.image c.in-Ok.inputs.plan) c.in-Ok.inputs.file.journal.entries
-    (Replay c.args.options None c.args.file.now c.args.journal.now (map (λ w. w.now) c.args.plugins.now))
+    (Replay c.args.options (option_map (λ n. n.now) c.args.script) c.args.file.now c.args.journal.now (map (λ w. w.now) c.args.plugins.now))
     c.in-Err-replayed_state.refusal c.in-Err-replayed_state.ensures.refused)
     c.refuse-in-Err-replayed_state.ensures.told
     (record { same = refl; faultless = refl }) (record { same = c.in-Ok.ensures.unchanged; faultless = c.in-Ok.ensures.writes })))

@@ -22,7 +22,7 @@ ask-requires-clause-ask g c =
 pub returns : goal.returns
 returns g c = record {
   followed = ask_followed c.ask.result (Asked c.args.no c.args.plugin) c.args.order.now c.args.self.now.state c.reserve_hold.new.self
-      c.ask.new.state c.args.self.now.berths.items c.args.self.now.blocks c.requires.following
+      c.ask.new.state c.args.self.now.berths.items c.args.self.now.blocks tt c.requires.following
       (ap (λ s. s.task) c.reserve_hold.ensures.rest) (ap (λ s. s.short) c.reserve_hold.ensures.rest)
       (ap (λ s. s.past) c.reserve_hold.ensures.rest) c.ask.ensures.judged;
 }

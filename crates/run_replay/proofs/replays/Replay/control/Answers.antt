@@ -14,5 +14,5 @@ returns g c = record {
       (λ f. IsFollowed f (entries.Order (Control c.args.party) c.args.order.now) c.args.self.now.state c.order_by.new.state
       c.args.self.now.berths.items c.args.self.now.blocks)
       (λ f judged. order_followed f (Control c.args.party) c.args.order.now c.args.self.now.state c.order_by.new.state
-      c.args.self.now.berths.items c.args.self.now.blocks c.requires.following judged) c.order_by.ensures.judged;
+      c.args.self.now.berths.items c.args.self.now.blocks tt c.requires.following judged) c.order_by.ensures.judged;
 }

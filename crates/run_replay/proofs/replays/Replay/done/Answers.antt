@@ -13,9 +13,6 @@ use Rattle.run_replay.proofs.replays.Replay.done.Goals as goal
 pub tell_by-requires-clause-open : goal.tell_by-requires-clause-open
 tell_by-requires-clause-open g c = ap (λ s. s.short) c.reserve_hold.ensures.rest ∙ c.requires.following.open_now
 
-pub tell_by-requires-clause-plain : goal.tell_by-requires-clause-plain
-tell_by-requires-clause-plain g c = ap (λ s. s.task.plan.script) c.reserve_hold.ensures.rest ∙ c.requires.following.plain
-
 pub tell_by-requires-clause-caught_up : goal.tell_by-requires-clause-caught_up
 tell_by-requires-clause-caught_up g c =
     subst (λ (s : StateValue). wanted (task_run s.task) s.past ≡ None) (sym c.reserve_hold.ensures.rest) c.requires.following.caught_up

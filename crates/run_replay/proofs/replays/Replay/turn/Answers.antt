@@ -25,7 +25,6 @@ turn_berth-requires-clause-may g c =
     let f = c.requires.following in
     record {
       open_now = f.open_now;
-      plain = f.plain;
       caught_up = f.caught_up;
       berth = present c.args.self.now.state c.args.self.now.berths.items c.args.self.now.blocks c.args.no c.in-Some.berth f
           (c.in-Some.ensures.taken
