@@ -4,8 +4,7 @@ the journal of each run.
 
     harts.py [PROGRAM [ROUNDS]]
 
-PROGRAM stands in place of tcg_host. Each guest runs ROUNDS times, 2 where nothing is said, on 1, 2, 4, 8 and 32 harts; those that
-spin until others have come run on one hart alone.
+PROGRAM stands in place of tcg_host. Each guest runs ROUNDS times, 2 where nothing is said, on 1, 2, 4, 8 and 32 harts.
 What it writes doesn't depend on how the harts' steps interleave; how many steps they make does. The replay of its journal prints what
 the run printed, and ends with its status.
 """
@@ -35,9 +34,6 @@ WRITES = {
 }
 # Guests whose hart 0 starts the others.
 FIRST = {"starter"}
-# Guests that spin until other harts have come are run on one hart alone: where the processors are busy, a hart may spin up to its
-# limit before the others' threads have run.
-ALONE = {"barrier", "queue"}
 
 
 def called(program, *words):
@@ -95,7 +91,7 @@ def main(arguments):
     runs = different = 0
     with tempfile.TemporaryDirectory() as place:
         for name in WRITES:
-            for harts in [1] if name in ALONE else HARTS * rounds:
+            for harts in HARTS * rounds:
                 for _ in range(TRIES):
                     found = list(differences(program, name, harts, place))
                     if "status 9" not in found:

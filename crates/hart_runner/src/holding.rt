@@ -81,6 +81,7 @@ pub(crate) fn hold_running<W: Watcher, C: Closer<Held<W>>>(
     let _ = state.task();
     if state.group().is_none() {
         let until = next_moment(state);
+        let start = seat.hart;
         let made = commit_first(state, seat, ahead, blocks)?;
         let has_sets = seat.attached.len() > 0;
         go_on(
@@ -92,6 +93,7 @@ pub(crate) fn hold_running<W: Watcher, C: Closer<Held<W>>>(
             has_sets,
             made,
             until,
+            &start,
             blocks,
             tape,
         );

@@ -13,6 +13,7 @@ ghost use Rattle.hart_runner.specs.Stretches.{IsGoing, GoesOnBy, IsCommitted, Li
 
 use crate::falling_due::has_come;
 use crate::going_ahead::Ahead;
+use crate::pacing::goes_round;
 use crate::seats::Seat;
 use crate::tapes::Tape;
 use block_finder::BlockCache;
@@ -125,8 +126,18 @@ fn next_block<W: Watcher, C: Closer<Held<W>>>(
     n
 }
 
-/// Makes the next blocks of hart `no` behind `made` steps of its Turn, one after the other, as long as there is one to make and the
-/// moment `until` hasn't come, and answers how many steps they are.
+/// Whether a hold is to end behind a block: its moment has come, or the hart is one of several and goes round.
+fn is_to_end<W: Watcher, C: Closer<Held<W>>>(
+    state: &HostState<W, C>,
+    until: Option<u64>,
+    hart: &Hart,
+    start: &Hart,
+) -> bool {
+    has_come(state, until) || (goes_round(hart, start) && state.task().harts() > 1)
+}
+
+/// Makes the next blocks of hart `no` behind `made` steps of its Turn, one after the other, as long as there is one to make, the
+/// moment `until` hasn't come, and the hart hasn't gone round to where it was at its start; answers how many steps they are.
 pub(crate) fn go_on<W: Watcher, C: Closer<Held<W>>>(
     state: &mut HostState<W, C>,
     no: u8,
@@ -136,6 +147,7 @@ pub(crate) fn go_on<W: Watcher, C: Closer<Held<W>>>(
     has_sets: bool,
     made: u32,
     until: Option<u64>,
+    start: &Hart,
     blocks: &BlockCache,
     tape: &mut Tape,
 ) -> u32
@@ -154,7 +166,7 @@ pub(crate) fn go_on<W: Watcher, C: Closer<Held<W>>>(
 {
     let mut more = 0;
     for _ in 0..BLOCK_WORDS {
-        if has_come(state, until) {
+        if is_to_end(state, until, hart, start) {
             return more;
         }
         let n = next_block(

@@ -13,7 +13,7 @@ use crate::delivering::hear_turn;
 use crate::going_ahead::{Ahead, go_ahead_from};
 use crate::holding::Hold;
 use crate::making_way::{IDLE_PAUSES, make_way};
-use crate::pacing::Stride;
+use crate::pacing::{Stride, goes_round};
 use crate::parts::{take_running_part, take_still_part};
 use crate::runners::{Runner, Turned};
 use crate::seats::Seat;
@@ -23,6 +23,7 @@ use block_finder::BlockCache;
 use flat_model::NoMemory;
 use host_state::HostState;
 use instr_lists::ListCache;
+use rv_exec::Hart;
 use std::sync::Wait;
 use watcher_api::{Closer, Held, Watcher};
 
@@ -298,12 +299,28 @@ impl<W: Watcher, C: Closer<Held<W>>> Runner<W, C> {
         )
     }
 
-    /// Waits until its hart, where it goes on, isn't far ahead of the others.
-    fn keep_pace(&self, stride: &mut Stride) {
-        if let Some(seat) = &self.seat {
-            if seat.hart.ending.is_none() {
-                stride.keep(&self.pace, seat.no, seat.hart.steps);
-            }
+    /// Its hart, while it has a seat.
+    fn hart(&self) -> Option<Hart> {
+        match &self.seat {
+            Some(seat) => Some(seat.hart),
+            None => None,
+        }
+    }
+
+    /// Pauses behind a turn before which its hart was so: until it isn't far ahead of the others, or, where it has gone round, for a
+    /// while.
+    fn keep_pace(&self, stride: &mut Stride, before: Option<Hart>) {
+        let (Some(hart), Some(before)) = (self.hart(), before) else {
+            return;
+        };
+        let no = self.pass.party();
+        if hart.ending.is_some() {
+            return;
+        }
+        if goes_round(&hart, &before) {
+            stride.go_round(&self.pace, no);
+        } else {
+            stride.keep(&self.pace, no, hart.steps);
         }
     }
 
@@ -328,6 +345,7 @@ impl<W: Watcher, C: Closer<Held<W>>> Runner<W, C> {
         let no = self.pass.party();
         let mut stride = Stride::new();
         for _ in rt.forever() {
+            let before = self.hart();
             let turned = self.turn(rt, gate)?;
             match turned {
                 Turned::Left => {
@@ -335,8 +353,9 @@ impl<W: Watcher, C: Closer<Held<W>>> Runner<W, C> {
                     return Ok(());
                 }
                 Turned::Went => {
+                    stride.count(&self.pace, no);
                     make_way(gate, 0);
-                    self.keep_pace(&mut stride);
+                    self.keep_pace(&mut stride, before);
                 }
                 Turned::Waited => {
                     stride.rest(&self.pace, no);
