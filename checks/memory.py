@@ -125,7 +125,7 @@ def main(arguments):
     subprocess.run([program, "disas", TOP / "examples" / "exit0.elf"], stdout=subprocess.DEVNULL)
     if not arguments:
         program = TOP / "crates" / "tcg_host" / "out" / "tcg_host"
-    runs = wanting = different = 0
+    runs = refusals = wanting = different = 0
     with tempfile.TemporaryDirectory() as place:
         library = shim_in(place)
         if not library:
@@ -138,16 +138,15 @@ def main(arguments):
             for at in range(1, min(made, most) + 1):
                 got, _, refused = answer(program, words, place, library, at)
                 runs += 1
-                if not refused:
-                    print(f"memory: {words[0]}: allocation {at} of {made} didn't come")
-                    different += 1
-                elif finds_none(got, whole):
+                refusals += refused
+                if refused and finds_none(got, whole):
                     wanting += 1
                 elif got != whole:
                     print(f"memory: {words[0]} without allocation {at}: status {got[0]}, {got[1][:200]!r}, {got[2][:500]!r}")
                     different += 1
-    print(f"memory: {runs} calls, each with one allocation refused: {wanting} found no memory, {different} differ")
-    return 1 if different else 0
+    print(f"memory: {refusals} of {runs} calls with one allocation refused: {wanting} found no memory, {different} differ")
+    # Harts that are scheduled otherwise may make an allocation fewer; most calls have theirs refused, and want of memory is found.
+    return 1 if different or refusals < runs * 9 // 10 or not wanting else 0
 
 
 if __name__ == "__main__":
